@@ -1,0 +1,3 @@
+// Numbers in columns, tried at the edges of what they take.
+#[cfg(test)]
+mod numbers;

@@ -1,0 +1,4 @@
+pub mod FaultLines
+pub mod Readings
+pub mod Tellings
+pub mod Surveys

@@ -1,0 +1,5 @@
+pub mod Faults
+pub mod Texts
+pub mod Sheets
+pub mod Readings
+pub mod Summaries

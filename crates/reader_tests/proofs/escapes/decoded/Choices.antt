@@ -1,0 +1,10 @@
+use lib.ListN.{length}
+use Rattle.reader_tests.proofs.Spelling.{Sofar}
+use Rattle.std.specs.Of.Vec.{vec-items}
+use Rattle.reader_tests.proofs.escapes.decoded.Given as given
+
+abbrev pub Inv-loop-rest : given.InvT-loop-rest
+Inv-loop-rest l = Sofar (l .text) (vec-items (l .bytes)) (l .rest)
+
+abbrev pub μ-loop-rest : given.MeasureT-loop-rest
+μ-loop-rest l = length (l .rest)
