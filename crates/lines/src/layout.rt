@@ -54,7 +54,7 @@ fn name_line(rest: &[u8], line: usize) -> Option<Line<'_>>
     }
 }
 
-pub fn taken_apart(bytes: &[u8], line: usize, numbers: usize) -> Option<Line<'_>>
+pub(crate) fn taken_apart(bytes: &[u8], line: usize, numbers: usize) -> Option<Line<'_>>
     requires { ⌜ numbers ≤ 4 ⌝ }
     ensures { λ r. ⌜ Apart numbers line (now (bytes .entry)) r ⌝ }
 {

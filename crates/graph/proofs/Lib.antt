@@ -1,0 +1,17 @@
+pub mod Rows
+pub mod Lengths
+pub mod Chains
+pub mod Least
+pub mod Updates
+pub mod Unique
+pub mod Tables
+pub mod Keeping
+pub mod Finals
+pub mod Closed
+pub mod Ranges
+pub mod Pigeons
+pub mod Loops
+pub mod Rings
+pub mod Sizes
+pub mod Computed
+pub mod Worked

@@ -1,0 +1,5 @@
+pub mod Schedules
+pub mod Legs
+pub mod Tables
+pub mod Laws
+pub mod Examples
