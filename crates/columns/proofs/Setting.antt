@@ -6,7 +6,7 @@ use Prim.Native.Nat.{ℕ, _+_, _-_, _≤_}
 use borrow.Rule.Slice.PartMut.{putMid}
 use lib.IntN.{ℤ}
 use lib.ListN.{length, take, drop, length-append, length-drop, length-take, take-append-drop}
-use Rattle.columns.specs.Columns.{Shows, Writes, WritesAt}
+use Rattle.columns.specs.Columns.{numeral, Shows, Writes, Set, WritesAt}
 use Rattle.columns.specs.declared.NoRoom.{NoRoom}
 use Rattle.std.proofs.shelf.Parts.{between-putMid, drop-putMid, take-putMid-below}
 use Rattle.std.specs.declared.result.Result.{Result}
@@ -34,3 +34,9 @@ set-part z start width k text part (Err _) same within h = (
 -- the same, where y is the number as the code passes it on
 pub writes-at : (y z : ℤ) (start width k : ℕ) (text part : List ℕ) (r : Result (Unit {0}) NoRoom) → y ≡ z → k ≡ width → start + width ≤ length text → Writes y (take k (drop start text)) part r → WritesAt z start width text (putMid start k text part) r
 writes-at y z start width k text part r e same within h = subst (λ x. WritesAt x start width text (putMid start k text part) r) e (set-part y start width k text part r same within h)
+
+-- where the numeral has room, it is written and not refused; y is the number as the code passes it on
+pub set-with-room : (y z : ℤ) (start width : ℕ) (before after : List ℕ) (r : Result (Unit {0}) NoRoom) → y ≡ z → start + width ≤ length before → length (numeral z) ≤ width → WritesAt y start width before after r → Set z start width before after
+set-with-room y z start width before after (Ok _) e within room h = subst (λ x. Set x start width before after) e h
+set-with-room y z start width before after (Err refusal) e within room h =
+    absurd (subst (λ x. WritesAt x start width before after (Err refusal)) e h .1 within room)

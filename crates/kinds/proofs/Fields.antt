@@ -1,14 +1,13 @@
 -- A number in its field: which numbers have room there. Assumes nothing.
 use mathlib.Core.List.{List}
-use mathlib.Core.Path.{_≡_, subst}
+use mathlib.Core.Path.{_≡_}
 use native.Mathlib.Omega.{arith}
-use Prim.Native.Nat.{ℕ, suc, _+_, _≤_}
+use Prim.Native.Nat.{ℕ, suc, _≤_}
 use lib.Dec.{lit<}
 use lib.IntN.{ℤ, pos, negsuc, natAbs}
 use lib.ListN.{length}
 use Rattle.columns.proofs.Sizes.{length-decimal-le, sfits-shows}
-use Rattle.columns.specs.Columns.{numeral, Reads, Set, WritesAt}
-use Rattle.columns.specs.declared.NoRoom.{NoRoom}
+use Rattle.columns.specs.Columns.{numeral, Reads}
 use Rattle.columns.specs.declared.Unread.{Unread}
 use Rattle.columns.specs.declared.Unread.the-variants.{NoNumber, TooLarge}
 use Rattle.kinds.specs.Kinds.{field, widest}
@@ -18,7 +17,7 @@ use Rattle.std.specs.declared.result.Result.{Result}
 use Rattle.std.specs.declared.result.Result.the-variants.{Ok, Err}
 
 -- A number that is written has room in a field.
-length-numeral-le : (z : ℤ) → natAbs z ≤ widest → length (numeral z) ≤ field
+pub length-numeral-le : (z : ℤ) → natAbs z ≤ widest → length (numeral z) ≤ field
 length-numeral-le (pos n) h = length-decimal-le 12 n (lit< tt) (omega arith)
 length-numeral-le (negsuc n) h = omega (arith, length-decimal-le 11 (suc n) (lit< tt) (omega arith))
 
@@ -27,9 +26,3 @@ pub reads-number : (column : List ℕ) (r : Result ℤ Unread) → length column
 reads-number column (Ok z) len h = (len, h)
 reads-number column (Err NoNumber) len h = λ z s. h z (s .1)
 reads-number column (Err TooLarge) len h = λ z s. h .2 (sfits-shows column (h .0) (omega (arith, len)) (h .1))
-
--- A number that is not too large is written into its field; y is the number as the code passes it on.
-pub put-writes : (y z : ℤ) (start : ℕ) (before after : List ℕ) (r : Result (Unit {0}) NoRoom) → y ≡ z → start + field ≤ length before → natAbs z ≤ widest → WritesAt y start field before after r → Set z start field before after
-put-writes y z start before after (Ok _) e within fits h = subst (λ x. Set x start field before after) e h
-put-writes y z start before after (Err refusal) e within fits h =
-    absurd (subst (λ x. WritesAt x start field before after (Err refusal)) e h .1 within (length-numeral-le z fits))

@@ -1,25 +1,15 @@
 -- Why an E line shows its fault. Assumes nothing.
-use mathlib.Core.List.{List, [], _∷_}
-use mathlib.Core.Path.{_≡_, refl, sym, ap, subst, _∙_}
+use mathlib.Core.List.{List}
+use mathlib.Core.Path.{_≡_, sym, ap, subst, _∙_}
 use native.Mathlib.Omega.{arith}
-use Prim.Native.Nat.{ℕ, _+_, _^_, _≤_, _<_}
-use lib.IntN.{ℤ, pos}
+use Prim.Native.Nat.{ℕ, _+_, _≤_}
+use lib.IntN.{pos}
 use lib.ListN.{length, take, drop, set, length-set}
-use Rattle.columns.proofs.Sizes.{length-decimal-le}
-use Rattle.columns.specs.Columns.{Shows, Set, WritesAt}
-use Rattle.columns.specs.declared.NoRoom.{NoRoom}
+use Rattle.columns.specs.Columns.{Shows, Set}
 use Rattle.lines.specs.Causes.{cause-number, layer-number, layer-of}
 use Rattle.reader.specs.Faults.{FaultLine}
 use Rattle.reader.specs.declared.fault.Fault.{Fault}
 use Rattle.std.proofs.shelf.Lists.{take-take, drop-take, take-more-set}
-use Rattle.std.specs.declared.result.Result.{Result}
-use Rattle.std.specs.declared.result.Result.the-variants.{Ok, Err}
-
--- a number with room for its digits is written; z is the number as the code passes it on
-pub set-with-room : (z : ℤ) (n start width : ℕ) (before after : List ℕ) (r : Result (Unit {0}) NoRoom) → z ≡ pos n → start + width ≤ length before → 0 < width → n < 10 ^ width → WritesAt z start width before after r → Set (pos n) start width before after
-set-with-room z n start width before after (Ok _) e within some small h = subst (λ y. Set y start width before after) e h
-set-with-room z n start width before after (Err refusal) e within some small h =
-    absurd (subst (λ y. WritesAt y start width before after (Err refusal)) e h .1 within (length-decimal-le width n some small))
 
 -- columns in front of those that were written are as before
 columns-before : (i m n : ℕ) (xs ys : List ℕ) → i + m ≤ n → take n xs ≡ take n ys → take m (drop i xs) ≡ take m (drop i ys)

@@ -9,7 +9,7 @@ use lib.IntN.{ℤ, pos}
 use lib.ListN.{length, length-append}
 use Rattle.columns.proofs.Sizes.{sfits-shows}
 use Rattle.columns.specs.Columns.{Shows}
-use Rattle.lines.specs.Lines.{letter, InTurn}
+use Rattle.lines.specs.Lines.{InTurn}
 use Rattle.reader.specs.Readings.{Begun, HandsOut, Next, Reading, comes-to-end, meets-fault, hands-out, Tells-the-sheet}
 use Rattle.lines.specs.Checks.{Good}
 use Rattle.reader.specs.Sheets.{Told}

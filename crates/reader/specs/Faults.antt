@@ -5,7 +5,7 @@ use mathlib.Core.List.{List, [], _∷_}
 use mathlib.Core.Path.{_≡_}
 use Prim.Native.Nat.{ℕ, _≤_}
 use lib.IntN.{pos}
-use lib.ListN.{length, take, drop, getD}
+use lib.ListN.{length, take, drop}
 use Rattle.columns.specs.Columns.{Shows}
 use Rattle.columns.specs.declared.NoRoom.{NoRoom}
 use Rattle.lines.specs.Causes.{cause-number, layer-number, layer-of}

@@ -1,7 +1,7 @@
 use mathlib.Core.Bool.{false≢true}
-use mathlib.Core.Path.{refl, sym, ap, _∙_}
+use mathlib.Core.Path.{refl, ap, _∙_}
 use native.Mathlib.Omega.{arith}
-use lib.ListN.{length, getD, replicate, length-replicate, getD-replicate}
+use lib.ListN.{length, getD, getD-replicate}
 use Rattle.lines.proofs.Layouts.{blank-all}
 use Rattle.lines.proofs.checks.is_blank.Needs as need
 
