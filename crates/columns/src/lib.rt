@@ -1,5 +1,7 @@
 // Whole numbers in columns of text, of every length: right-justified, with spaces before them.
 // What a column stands for is not known here.
+#![tactic(auto)]
+
 ghost use Rattle.std.specs.Prelude.{◌≡◌, ℕ, ◌+◌, ◌*◌, ◌∷◌, length};
 ghost use Rattle.columns.specs.Columns.{decimal, Reads, Writes, WritesAt, OneNumber, OneColumn, ReadsBack, WritesBack};
 ghost use Rattle.columns.specs.Parts.{Unpadded, Measures, Names, Kept, minus, Puts};

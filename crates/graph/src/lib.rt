@@ -1,4 +1,6 @@
 // Why the table of least lengths tells which skews are possible: each law stands on the contract of a function.
+#![tactic(auto)]
+
 ghost use Rattle.graph.specs.Examples.{WorkedExamplesHold};
 ghost use Rattle.graph.specs.Laws.{MeetingIsKeepingTheLegs, TablesAreUnique, NoRecordsHaveATable, TheUpdateIsTheTable, RefusedExactlyWhenNoSchedule, TheFirstRefusedIsTheLeastConflict, ARangeIsWhatSchedulesHave, OneFinalTime, FinalTimesMeetTheList, CellsStayWithin, NoScheduleExactlyWhenARing, ARingHasAtMostNSteps};
 

@@ -1,4 +1,6 @@
 // Kinds of time.
+#![tactic(auto)]
+
 mod field;
 pub mod guarded;
 mod number;

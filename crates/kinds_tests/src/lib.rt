@@ -1,4 +1,6 @@
 // The kinds of time, tried at the edges of what they take.
+#![tactic(auto)]
+
 #[cfg(test)]
 mod fields;
 #[cfg(test)]

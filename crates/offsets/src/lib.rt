@@ -1,5 +1,7 @@
 // A kind of time for tests only. Many of its values have one row,
 // so nothing that serves every kind can lean on equal rows being equal values.
+#![tactic(auto)]
+
 ghost use Rattle.std.specs.Prelude.{◌≡◌};
 ghost use Rattle.offsets.specs.Offsets.{whole, row, Gives};
 ghost use Rattle.std.proofs.Common.{rules};

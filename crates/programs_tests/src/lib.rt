@@ -1,4 +1,6 @@
 // The programs' answers as values, and their runs on streams in memory.
+#![tactic(auto)]
+
 #[cfg(test)]
 mod shared;
 #[cfg(test)]

@@ -1,5 +1,7 @@
 // Runs the sheet reader on the cases of standard input, and prints a report of each.
 // A case is a line: a kind of time, a space, and a sheet's text with escapes.
+#![tactic(auto)]
+
 mod escapes;
 
 use anyhow::{Context, anyhow};

@@ -1,4 +1,6 @@
 // The calls on sheets, tried at their edges: memory that is short, foreign or another story's, and what it holds then.
+#![tactic(auto)]
+
 #[cfg(test)]
 mod foreign;
 #[cfg(test)]

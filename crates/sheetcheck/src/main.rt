@@ -1,6 +1,8 @@
 // Reads a sheet of bounds from standard input, and reports what it holds or its first fault.
 // No scheduler is linked here: the sheet is read, and no call is made.
 // What is read and printed no contract can say.
+#![tactic(auto)]
+
 ghost use Rattle.std.specs.Prelude.{◌≡◌, false, is_ok};
 ghost use Rattle.sheetcheck.specs.Words.{Named, words};
 

@@ -1,5 +1,7 @@
 // Plays the scripts of standard input, and prints the report of each.
 // A script begins with a line that names its kind of time, `case plain` or `case guarded`, which is printed too.
+#![tactic(auto)]
+
 use programs::request::{Kind, Request};
 use std::alloc::Global;
 use std::io::{BufRead, BufReader, Write};

@@ -3,5 +3,5 @@ use Rattle.columns.proofs.read.Goals as goal
 
 pub returns : goal.returns
 returns c =
-    let value = reads_from_names _ _ c.read-numeral.result c.after-spaces.ensures c.read-numeral.ensures in
+    let value = reads_from_names _ _ c.read_numeral.result c.after_spaces.ensures c.read_numeral.ensures in
     record { value = value; one_number = one_number; writes_back = writes_back _ _ value }

@@ -6,4 +6,4 @@ pub returns-in-Some : goal.returns-in-Some
 returns-in-Some g c =
     let d = decides_zero _ g.T.Time.count g.T.Time.row c.args.cell c.in-Some.x c.zero.result c.compare.result
     c.in-Some.is c.zero.ensures.value c.compare.ensures.value in
-    record { test = (λ t. d.0 (sym c.is-eq.ensures ∙ t), λ e. c.is-eq.ensures ∙ d.1 e) }
+    record { test = (λ t. d.0 (sym c.is_eq.ensures ∙ t), λ e. c.is_eq.ensures ∙ d.1 e) }

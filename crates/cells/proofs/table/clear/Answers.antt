@@ -7,16 +7,16 @@ use Rattle.cells.proofs.Placed.{place_of, place_below}
 use Rattle.cells.proofs.Rewriting.{before_more, rewritten_kept}
 use Rattle.cells.proofs.table.clear.Goals as goal
 
-pub put-cell-requires : goal.put-cell-requires
-put-cell-requires g c =
+pub put_cell-requires : goal.put_cell-requires
+put_cell-requires g c =
     let p = place_of c.args.pins c.loop-at.at c.requires.some c.loop-at-test.true in
     record { few = c.requires.few; long = omega (arith, c.loop-at.invariant.len, c.requires.long); leaves = p.0; enters = p.1 }
 
 pub loop-at-preserved : goal.loop-at-preserved
 loop-at-preserved g c =
     let p = place_of c.args.pins c.loop-at.at c.requires.some c.loop-at-test.true in
-    before_more _ g.T.Time.count g.T.Time.row c.args.pins (no_bounds g.T.Time.count) c.args.cells.now c.loop-at.cells c.put-cell.new.cells
-    c.loop-at.at (c.loop-at.at / c.args.pins + 1) (c.loop-at.at % c.args.pins + 1) c.unbound.result c.requires.long p.0 p.1 p.2 c.loop-at.invariant c.put-cell.ensures.after c.unbound.ensures.value
+    before_more _ g.T.Time.count g.T.Time.row c.args.pins (no_bounds g.T.Time.count) c.args.cells.now c.loop-at.cells c.put_cell.new.cells
+    c.loop-at.at (c.loop-at.at / c.args.pins + 1) (c.loop-at.at % c.args.pins + 1) c.unbound.result c.requires.long p.0 p.1 p.2 c.loop-at.invariant c.put_cell.ensures.after c.unbound.ensures.value
 
 pub returns : goal.returns
 returns g c = record {

@@ -6,16 +6,16 @@ use Rattle.std.specs.Ordering.{is_le}
 use Rattle.cells.proofs.Timing.{earlier_some}
 use Rattle.cells.proofs.times.earlier.Goals as goal
 
-pub returns-then-is-le : goal.returns-then-is-le
-returns-then-is-le g c = record {
+pub returns-then-is_le : goal.returns-then-is_le
+returns-then-is_le g c = record {
   value = subst (λ (x : Option _). Earlier g.T.Time.count (g.T.Time.row c.args.time) (option_map g.T.Time.row x) (g.T.Time.row c.args.time)) (sym c.in-Some.is)
-      (earlier_some g.T.Time.count (g.T.Time.row c.args.time) (g.T.Time.row c.in-Some.other) (g.T.Time.row c.args.time) c.is-le.result (c.is-le.ensures ∙ ap is_le c.compare.ensures.value) (inl (c.if-is-le.true, refl)));
+      (earlier_some g.T.Time.count (g.T.Time.row c.args.time) (g.T.Time.row c.in-Some.other) (g.T.Time.row c.args.time) c.is_le.result (c.is_le.ensures ∙ ap is_le c.compare.ensures.value) (inl (c.if-is_le.true, refl)));
 }
 
-pub returns-else-is-le : goal.returns-else-is-le
-returns-else-is-le g c = record {
+pub returns-else-is_le : goal.returns-else-is_le
+returns-else-is_le g c = record {
   value = subst (λ (x : Option _). Earlier g.T.Time.count (g.T.Time.row c.args.time) (option_map g.T.Time.row x) (g.T.Time.row c.in-Some.other)) (sym c.in-Some.is)
-      (earlier_some g.T.Time.count (g.T.Time.row c.args.time) (g.T.Time.row c.in-Some.other) (g.T.Time.row c.in-Some.other) c.is-le.result (c.is-le.ensures ∙ ap is_le c.compare.ensures.value) (inr (c.if-is-le.false, refl)));
+      (earlier_some g.T.Time.count (g.T.Time.row c.args.time) (g.T.Time.row c.in-Some.other) (g.T.Time.row c.in-Some.other) c.is_le.result (c.is_le.ensures ∙ ap is_le c.compare.ensures.value) (inr (c.if-is_le.false, refl)));
 }
 
 pub returns-in-None : goal.returns-in-None

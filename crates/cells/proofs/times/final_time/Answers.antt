@@ -10,7 +10,7 @@ loop-from-init g c = least_none g.T.Time.count c.args.pins (cells_of _ g.T.Time.
 
 pub loop-from-preserved : goal.loop-from-preserved
 loop-from-preserved g c = least_more g.T.Time.count c.args.pins (cells_of _ g.T.Time.count g.T.Time.row c.args.pins c.args.cells.now) c.args.pin c.loop-from.from (g.T.Time.row c.loop-from.least) (g.T.Time.row c.earlier-least.result) (omega arith) c.loop-from.invariant
-    (subst (λ (x : Option _). Earlier g.T.Time.count (g.T.Time.row c.loop-from.least) (option_map g.T.Time.row x) (g.T.Time.row c.earlier-least.result)) c.cell-at.ensures.value c.earlier-least.ensures.value)
+    (subst (λ (x : Option _). Earlier g.T.Time.count (g.T.Time.row c.loop-from.least) (option_map g.T.Time.row x) (g.T.Time.row c.earlier-least.result)) c.cell_at.ensures.value c.earlier-least.ensures.value)
 
 pub returns : goal.returns
 returns g c = record { value = least_all g.T.Time.count c.args.pins (cells_of _ g.T.Time.count g.T.Time.row c.args.pins c.args.cells.now) c.args.pin c.loop-from.from (g.T.Time.row c.loop-from.least) (omega arith) c.loop-from.invariant }

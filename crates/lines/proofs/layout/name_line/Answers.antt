@@ -8,17 +8,17 @@ returns-then-rest-lt-PIN c k = no_name k c.args.rest.now (λ pin name four same.
 
 pub returns-in-32 : goal.returns-in-32
 returns-in-32 c k =
-    let split = c.split-at.ensures in (
+    let split = c.split_at.ensures in (
       record {
-        together = ap (λ l. 80 ∷ l) (name_together c.args.rest.now c.split-at.result.0.now c.split-at.result.1.now split.by_index.0 (search rules) (search rules));
+        together = ap (λ l. 80 ∷ l) (name_together c.args.rest.now c.split_at.result.0.now c.split_at.result.1.now split.by_index.0 (search rules) (search rules));
         layout = split.front-len;
       },
       refl,
     )
 
-pub returns-in-default : goal.returns-in-default
-returns-in-default c k = no_name k c.args.rest.now (λ pin name four same.
-    let after : c.split-at.result.1.now ≡ 32 ∷ name = c.split-at.ensures.back ∙ ap (drop 4) (sym same) ∙ drop_at pin (32 ∷ name) 4 four in
+pub returns-in_default : goal.returns-in_default
+returns-in_default c k = no_name k c.args.rest.now (λ pin name four same.
+    let after : c.split_at.result.1.now ≡ 32 ∷ name = c.split_at.ensures.back ∙ ap (drop 4) (sym same) ∙ drop_at pin (32 ∷ name) 4 four in
     let some = ap length after in
-    let space : get_or c.split-at.result.1.now 0 0 ≡ 32 = ap (λ l. get_or l 0 0) after in
+    let space : get_or c.split_at.result.1.now 0 0 ≡ 32 = ap (λ l. get_or l 0 0) after in
     search rules)

@@ -3,27 +3,27 @@ use Rattle.lines.proofs.Layouts.{apart_first, apart_line, apart_no_record}
 use Rattle.lines.proofs.layout.taken_apart.Goals as goal
 
 pub returns-in-78 : goal.returns-in-78
-returns-in-78 c = apart_first c.args.numbers c.args.line 78 c.args.bytes.now (search rules) (search rules) _ (c.pins-line.ensures _)
+returns-in-78 c = apart_first c.args.numbers c.args.line 78 c.args.bytes.now (search rules) (search rules) _ (c.pins_line.ensures _)
 
 pub returns-in-80 : goal.returns-in-80
-returns-in-80 c = apart_first c.args.numbers c.args.line 80 c.args.bytes.now (search rules) (search rules) _ (c.name-line.ensures _)
+returns-in-80 c = apart_first c.args.numbers c.args.line 80 c.args.bytes.now (search rules) (search rules) _ (c.name_line.ensures _)
 
-pub returns-in-ok-record-fields : goal.returns-in-ok-record-fields
-returns-in-ok-record-fields c =
-    let told = c.in-ok-record-fields.ensures in
+pub returns-in_ok-record_fields : goal.returns-in_ok-record_fields
+returns-in_ok-record_fields c =
+    let told = c.in_ok-record_fields.ensures in
     apart_line c.args.numbers c.args.line 82 c.args.bytes.now (search rules) (search rules) _ refl told.0 told.1 refl
 
-pub returns-in-ok-record-fields-2 : goal.returns-in-ok-record-fields-2
-returns-in-ok-record-fields-2 c =
-    let told = c.in-ok-record-fields-2.ensures in
+pub returns-in_ok-record_fields-2 : goal.returns-in_ok-record_fields-2
+returns-in_ok-record_fields-2 c =
+    let told = c.in_ok-record_fields-2.ensures in
     apart_line c.args.numbers c.args.line 67 c.args.bytes.now (search rules) (search rules) _ refl told.0 told.1 refl
 
-pub returns-in-err-record-fields : goal.returns-in-err-record-fields
-returns-in-err-record-fields c =
-    apart_no_record c.args.numbers c.args.line 82 c.args.bytes.now (search rules) (search rules) _ c.from-residual.ensures
-    (λ e. omega arith) (λ e. omega arith) c.in-err-record-fields.ensures
+pub returns-in_err-record_fields : goal.returns-in_err-record_fields
+returns-in_err-record_fields c =
+    apart_no_record c.args.numbers c.args.line 82 c.args.bytes.now (search rules) (search rules) _ c.from_residual.ensures
+    (λ e. omega arith) (λ e. omega arith) c.in_err-record_fields.ensures
 
-pub returns-in-err-record-fields-2 : goal.returns-in-err-record-fields-2
-returns-in-err-record-fields-2 c =
-    apart_no_record c.args.numbers c.args.line 67 c.args.bytes.now (search rules) (search rules) _ c.from-residual-in-err-record-fields-2.ensures
-    (λ e. omega arith) (λ e. omega arith) c.in-err-record-fields-2.ensures
+pub returns-in_err-record_fields-2 : goal.returns-in_err-record_fields-2
+returns-in_err-record_fields-2 c =
+    apart_no_record c.args.numbers c.args.line 67 c.args.bytes.now (search rules) (search rules) _ c.from_residual-in_err-record_fields-2.ensures
+    (λ e. omega arith) (λ e. omega arith) c.in_err-record_fields-2.ensures

@@ -8,7 +8,7 @@ pub returns : goal.returns
 returns c =
     let number : SFits w64 c.args.self.number = search rules in
     let offset : SFits w64 c.args.self.offset = search rules in
-    let both : SFits w64 c.saturating-add-picoseconds.result = search rules in
-    let sum = simp to_z-of_z at c.saturating-add-picoseconds.ensures in
+    let both : SFits w64 c.saturating_add-picoseconds.result = search rules in
+    let sum = simp to_z-of_z at c.saturating_add-picoseconds.ensures in
     let written = simp sum at (simp to_z-of_z at c.write.ensures.value) in
     record { value = writes_saturated (whole c.args.self) _ _ c.write.result written }

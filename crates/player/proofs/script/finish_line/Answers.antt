@@ -17,8 +17,8 @@ returns-in-Err g c = λ ledger.
     c.in-Opened.open c.finish.new.times (Err c.in-Err.refused) (Answer.Refused c.in-Err.refused.cause)
     c.in-Opened.is refl c.in-Err.ensures.finished
 
-pub returns-in-default : goal.returns-in-default
-returns-in-default g c = λ ledger.
+pub returns-in_default : goal.returns-in_default
+returns-in_default g c = λ ledger.
     line_lacks _ g.T.Time.count g.T.Time.row c.args.sheet (lent c.args.cells.now ledger)
     c.args.times.now (Call.Finish (length c.args.times.now))
-    (not_open _ c.args.sheet c.in-default.not-Opened)
+    (not_open _ c.args.sheet c.in_default.not-Opened)

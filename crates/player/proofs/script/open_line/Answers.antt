@@ -21,8 +21,8 @@ returns-in-None g c = λ part.
     c.in-Drafted.draft c.open.new.cells c.in-Err.unopened None c.in-Drafted.is c.in-None.is
     c.in-Err.ensures.opened
 
-pub returns-in-default : goal.returns-in-default
-returns-in-default g c = λ part.
+pub returns-in_default : goal.returns-in_default
+returns-in_default g c = λ part.
     line_lacks _ g.T.Time.count g.T.Time.row c.args.sheet (lent c.args.cells.now c.args.ledger.now) part
     Call.Open
-    (not_draft _ c.args.sheet c.in-default.not-Drafted)
+    (not_draft _ c.args.sheet c.in_default.not-Drafted)

@@ -49,8 +49,8 @@ offset-bounds-times-used g c =
     (c.suffices.ensures.enough c.if-not-suffices.false) in
     let h : c.loop-at.used ≤ length c.args.times.now = omega (arith, room) in search (rules, scaled_fits≤)
 
-pub slice-bounds-play-line-end : goal.slice-bounds-play-line-end
-slice-bounds-play-line-end g c =
+pub slice-bounds-play_line-end : goal.slice-bounds-play_line-end
+slice-bounds-play_line-end g c =
     let room =
     total_room _ c.args.script.now c.loop-at.at c.index-script-at.result c.loop-at.used
     (length c.args.times.now)
@@ -66,12 +66,12 @@ pub loop-at-preserved : goal.loop-at-preserved
 loop-at-preserved g c =
     played_more _ g.T.Time.count g.T.Time.row (lent c.args.cells.now c.args.ledger.now)
     c.args.times.now c.args.script.now c.args.answers.now
-    c.loop-at.at c.loop-at.used (c.loop-at.used + c.places.result) c.loop-at.sheet c.play-line-after.result.0
-    (lent c.loop-at.cells c.loop-at.ledger) (lent c.play-line-after.new.cells c.play-line-after.new.ledger)
-    c.loop-at.times c.play-line-after.new.part c.loop-at.answers c.index-script-at.result
-    c.play-line-after.result.1
+    c.loop-at.at c.loop-at.used (c.loop-at.used + c.places.result) c.loop-at.sheet c.play_line-after.result.0
+    (lent c.loop-at.cells c.loop-at.ledger) (lent c.play_line-after.new.cells c.play_line-after.new.ledger)
+    c.loop-at.times c.play_line-after.new.part c.loop-at.answers c.index-script-at.result
+    c.play_line-after.result.1
     c.loop-at-test.true c.if-answers-script.false (c.suffices.ensures.enough c.if-not-suffices.false)
-    c.index-script-at.is (omega (arith, c.places.ensures)) c.loop-at.invariant c.play-line-after.ensures
+    c.index-script-at.is (omega (arith, c.places.ensures)) c.loop-at.invariant c.play_line-after.ensures
 
 pub returns : goal.returns
 returns g c = record {

@@ -6,11 +6,11 @@ use Rattle.player.proofs.script.range_line.Goals as goal
 pub returns-in-Opened : goal.returns-in-Opened
 returns-in-Opened g c = λ ledger part.
     line_ranges _ g.T.Time.count g.T.Time.row c.args.sheet c.args.cells.now ledger part
-    c.in-Opened.open c.args.first c.args.second c.range.result c.range-answer-answer.result
-    c.in-Opened.is c.range-answer-answer.ensures c.range.ensures.told
+    c.in-Opened.open c.args.first c.args.second c.range.result c.range_answer-answer.result
+    c.in-Opened.is c.range_answer-answer.ensures c.range.ensures.told
 
-pub returns-in-default : goal.returns-in-default
-returns-in-default g c = λ ledger part.
+pub returns-in_default : goal.returns-in_default
+returns-in_default g c = λ ledger part.
     line_lacks _ g.T.Time.count g.T.Time.row c.args.sheet (lent c.args.cells.now ledger) part
     (Call.Range c.args.first c.args.second)
-    (not_open _ c.args.sheet c.in-default.not-Opened)
+    (not_open _ c.args.sheet c.in_default.not-Opened)

@@ -7,14 +7,14 @@ use Rattle.player.proofs.script.take_up_line.Goals as goal
 pub returns-in-Ok : goal.returns-in-Ok
 returns-in-Ok g c = λ cells part.
     line_takes_up _ g.T.Time.count g.T.Time.row c.args.sheet cells c.args.ledger.now part
-    c.in-Finished.last (Ok c.in-Ok.draft) c.in-Finished.is c.in-Ok.ensures.taken-up
+    c.in-Finished.last (Ok c.in-Ok.draft) c.in-Finished.is c.in-Ok.ensures.taken_up
 
 pub returns-in-Err : goal.returns-in-Err
 returns-in-Err g c = λ cells part.
     line_takes_up _ g.T.Time.count g.T.Time.row c.args.sheet cells c.args.ledger.now part
-    c.in-Finished.last (Err c.in-Err.refused) c.in-Finished.is c.in-Err.ensures.taken-up
+    c.in-Finished.last (Err c.in-Err.refused) c.in-Finished.is c.in-Err.ensures.taken_up
 
-pub returns-in-default : goal.returns-in-default
-returns-in-default g c = λ cells part.
+pub returns-in_default : goal.returns-in_default
+returns-in_default g c = λ cells part.
     line_lacks _ g.T.Time.count g.T.Time.row c.args.sheet (lent cells c.args.ledger.now) part Call.TakeUp
-    (not_final _ c.args.sheet c.in-default.not-Finished)
+    (not_final _ c.args.sheet c.in_default.not-Finished)

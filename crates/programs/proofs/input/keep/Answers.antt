@@ -8,6 +8,6 @@ returns c =
     let len : length text ≡ vec_len c.args.text.now = search rules in
     let cut = kept_append c.args.limit text c.args.more.now c.min.result (omega arith) (search rules) in
     record {
-      items = kept_made _ _ _ _ _ c.extend-from-slice.ensures.items cut;
+      items = kept_made _ _ _ _ _ c.extend_from_slice.ensures.items cut;
       bound = search rules;
     }

@@ -6,6 +6,6 @@ use Rattle.std.proofs.lemmas.Int.{to_z_pos}
 
 pub returns : goal.returns
 returns c =
-    set_with_room _ (pos c.args.number) c.args.start c.args.width c.args.bytes.now c.write-at.new.text c.write-at.result
+    set_with_room _ (pos c.args.number) c.args.start c.args.width c.args.bytes.now c.write_at.new.text c.write_at.result
     (to_z_pos w64 c.args.number (omega arith)) c.requires.within (length_decimal_le c.args.width c.args.number c.requires.fits.0 c.requires.fits.1)
-    c.write-at.ensures.value
+    c.write_at.ensures.value

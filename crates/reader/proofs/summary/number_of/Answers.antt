@@ -6,4 +6,4 @@ use Rattle.reader.proofs.summary.number_of.Goals as goal
 pub returns : goal.returns
 returns c z shows fits =
     let told = c.read.ensures in
-    to_z-of_z w64 c.unwrap-or.result (search rules) ∙ c.unwrap-or.ensures ∙ read_or c.args.columns.now c.read.result (pos 0) z told.one_number told.value shows fits
+    to_z-of_z w64 c.unwrap_or.result (search rules) ∙ c.unwrap_or.ensures ∙ read_or c.args.columns.now c.read.result (pos 0) z told.one_number told.value shows fits

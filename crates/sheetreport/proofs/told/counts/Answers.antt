@@ -12,5 +12,5 @@ returns c =
     let r : s.constraints < 2 ^ 64 = search rules in
     let m : s.commits < 2 ^ 64 = search rules in
     let fits : SFits w64 s.pins = search rules in
-    let written = simp to_z-of_z at c.in-ok-text.ensures.ok in
-    record { made = ap vec_items c.into-bytes.ensures.value ∙ (written ∙ counts_written s p n r m) }
+    let written = simp to_z-of_z at c.in_ok-text.ensures.ok in
+    record { made = ap vec_items c.into_bytes.ensures.value ∙ (written ∙ counts_written s p n r m) }

@@ -4,15 +4,15 @@ use Rattle.reader.proofs.Readings.{line_ahead, length_line}
 use Rattle.reader.proofs.reader.Reader.next_line.Goals as goal
 
 pub returns-then-start-text : goal.returns-then-start-text
-returns-then-start-text g c = record { next = (c.in-default.ensures, ap (λ n. drop n c.args.self.now.text.now) c.if-start-text.true ∙ drop-length c.args.self.now.text.now, refl) }
+returns-then-start-text g c = record { next = (c.in_default.ensures, ap (λ n. drop n c.args.self.now.text.now) c.if-start-text.true ∙ drop-length c.args.self.now.text.now, refl) }
 
 pub returns-in-Ok : goal.returns-in-Ok
 returns-in-Ok g c =
-    let first = c.line-end-end.ensures in
+    let first = c.line_end-end.ensures in
     record {
       next = record {
         bytes = _;
-        ahead = line_ahead c.args.self.now c.line-end-end.result c.in-default.ensures first;
+        ahead = line_ahead c.args.self.now c.line_end-end.result c.in_default.ensures first;
         good = c.in-Ok.ensures.checked;
         text = refl;
         place = omega (arith, length_line _ _ _ first, first.forward);
@@ -27,7 +27,7 @@ returns-in-Err g c =
       next = (
         inr (record {
           bytes = _;
-          ahead = line_ahead c.args.self.now c.line-end-end.result c.in-default.ensures c.line-end-end.ensures;
+          ahead = line_ahead c.args.self.now c.line_end-end.result c.in_default.ensures c.line_end-end.ensures;
           faulty = c.in-Err.ensures.checked;
           number = refl;
         }),

@@ -15,7 +15,7 @@ returns-in-Some g c = record {
 pub returns : goal.returns
 returns g c = record {
   committed = record {
-    passed = c.in-default.ensures.value;
+    passed = c.in_default.ensures.value;
     numbered = refl;
     pins = refl;
     records = refl;
@@ -24,5 +24,5 @@ returns g c = record {
   };
   refused_exactly_when_no_schedule =
       commit_sound _ g.T.Time.count g.T.Time.row c.args.self.now
-      (lent c.args.cells.now c.args.ledger.now) c.args.bound (Ok _) c.in-default.ensures.value;
+      (lent c.args.cells.now c.args.ledger.now) c.args.bound (Ok _) c.in_default.ensures.value;
 }

@@ -7,11 +7,11 @@ use Rattle.scheduler.proofs.sheet.Open.range.Goals as goal
 pub returns : goal.returns
 returns g c =
     let v : TellsRange _ g.T.Time.count g.T.Time.row c.args.self.now c.args.cells.now c.args.first
-    c.args.second c.range-of.result =
-    record { passed = c.in-default.ensures.value; reads = c.range-of.ensures.value } in
+    c.args.second c.range_of.result =
+    record { passed = c.in_default.ensures.value; reads = c.range_of.ensures.value } in
     record {
       told = v;
       what-schedules-have =
           λ ledger. range_is _ g.T.Time.count g.T.Time.row c.args.self.now (lent c.args.cells.now ledger)
-          c.args.first c.args.second (Ok c.range-of.result) v;
+          c.args.first c.args.second (Ok c.range_of.result) v;
     }
