@@ -1,6 +1,8 @@
 -- What reading a column tells of the number that it shows. Assumes nothing.
-use Rattle.std.proofs.Common.{◌≡◌, ℕ, ◌≤◌, Bool, true, false, cond, eqb, List, ℤ, pos, Ok, Err, Decides, Result, sym, refl, ap, ◌∙◌, subst, arith, w64, SFits, to_z, of_z, eq-eqb, true-eqb}
+use Rattle.std.proofs.Common.{◌≡◌, ℕ, ◌≤◌, Bool, eqb, List, ℤ, pos, Ok, Err, Decides, Result, sym, refl, ap, ◌∙◌, subst, arith, w64, SFits, to_z, of_z, eq-eqb, true-eqb}
+use denote.Enum.Bare.{sameb}
 use mathlib.Core.Bool.{false≢true}
+use Rattle.columns.specs.contracts.Unread.{the_type}
 use Rattle.columns.specs.Columns.{Shows, Reads, OneNumber}
 use Rattle.columns.specs.declared.Unread.{Unread}
 use Rattle.columns.specs.declared.Unread.TheVariants.{NoNumber, TooLarge}
@@ -9,11 +11,9 @@ use Rattle.std.proofs.lemmas.Int.{to_z-of_z, to_z_pos}
 use Rattle.std.specs.Result.{result_unwrap_or}
 
 -- a column that is refused shows a number exactly where it is refused as too large
-pub decides_too_large : (columns : List ℕ) (u : Unread) (b : Bool) → Reads columns (Err u) → cond b (u ≡ TooLarge) (u ≡ TooLarge → ⊥) → Decides b (Number columns)
-decides_too_large columns NoNumber true none e = let z : ◌≡◌ {A = ℕ} 0 1 = cc in absurd (omega arith)
-decides_too_large columns NoNumber false none e = (λ t. absurd (false≢true t), λ n. absurd (none n.0 n.1))
-decides_too_large columns TooLarge true large e = (λ t. (large.0, large.1), λ n. refl)
-decides_too_large columns TooLarge false large e = absurd (e refl)
+pub decides_too_large : (columns : List ℕ) (u : Unread) (b : Bool) → Reads columns (Err u) → b ≡ sameb the_type u TooLarge → Decides b (Number columns)
+decides_too_large columns NoNumber b none e = rw e (λ t. absurd (false≢true t), λ n. absurd (none n.0 n.1))
+decides_too_large columns TooLarge b large e = rw e (λ t. (large.0, large.1), λ n. refl)
 
 -- a column that is refused shows no number that fits
 pub refused_not_fits : (columns : List ℕ) (u : Unread) (z : ℤ) → OneNumber → Reads columns (Err u) → SFits w64 z → Shows columns z → ⊥

@@ -12,7 +12,7 @@
 --     End k columns       the columns of an end: all spaces where it is absent, else k fields that show a row
 --     Numbers k line      each field of the line that is to be a number is one
 --     OwnCount k line     an N line shows k as the count of numbers
-use Rattle.std.specs.Prelude.{◌≡◌, ℕ, ◌*◌, ◌<◌, ◌≤◌, ◌⊎◌, List, [], ◌∷◌, ◌++◌, length, replicate, ℤ, pos, Some, None, Option}
+use Rattle.std.specs.Prelude.{◌≡◌, ℕ, ◌*◌, ◌<◌, ◌≤◌, ◌⊎◌, List, ◌∷◌, ◌++◌, length, replicate, ℤ, pos, Some, None, Option}
 use Rattle.columns.specs.Columns.{Shows}
 use Rattle.kinds.specs.Kinds.{field, ShowsRow}
 use Rattle.kinds.specs.Rows.{Row}

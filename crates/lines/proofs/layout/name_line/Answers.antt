@@ -11,7 +11,7 @@ returns-in-32 c k =
     let split = c.split_at.ensures in (
       record {
         together = ap (λ l. 80 ∷ l) (name_together c.args.rest.now c.split_at.result.0.now c.split_at.result.1.now split.by_index.0 (search rules) (search rules));
-        layout = split.front-len;
+        layout = split.front_len;
       },
       refl,
     )
