@@ -1,7 +1,6 @@
 // A number in a column, read and written.
 use columns::{NoRoom, Unread};
 use std::process::Abort;
-use std::test::Fail;
 
 fn reads_a_number(rt: &impl Abort) {
     let cases = [
@@ -111,23 +110,22 @@ fn is_all(bytes: &[u8], byte: u8) -> bool {
 }
 
 // The column is left as it was where the numeral has no room, else it is spaces and then the numeral.
-fn check_write(rt: &impl Abort, number: i64, numeral: &str, column: &mut [u8]) -> Result<(), Fail> {
+fn check_write(rt: &impl Abort, number: i64, numeral: &str, column: &mut [u8]) {
     column.fill(b'x');
     let written = columns::write(number, column);
     let Some(spaces) = column.len().checked_sub(numeral.len()) else {
-        assert!(rt; is_all(column, b'x'));
-        assert_eq!(rt; written, Err(NoRoom));
-        return Ok(());
+        assert!(rt; is_all(column, b'x'), "{}", numeral);
+        assert_eq!(rt; written, Err(NoRoom), "{}", numeral);
+        return;
     };
-    assert_eq!(rt; written, Ok(()));
-    assert_eq!(rt; columns::read(column), Ok(number));
+    assert_eq!(rt; written, Ok(()), "{}", numeral);
+    assert_eq!(rt; columns::read(column), Ok(number), "{}", numeral);
     let (front, back) = column.split_at(spaces);
-    assert!(rt; is_all(front, b' '));
-    assert_eq!(rt; back, numeral.as_bytes());
-    Ok(())
+    assert!(rt; is_all(front, b' '), "{}", numeral);
+    assert_eq!(rt; back, numeral.as_bytes(), "{}", numeral);
 }
 
-fn writes_into_columns_of_each_length(rt: &impl Abort) -> Result<(), Fail> {
+fn writes_into_columns_of_each_length(rt: &impl Abort) {
     let cases = [
         (0, "0"),
         (9, "9"),
@@ -145,10 +143,9 @@ fn writes_into_columns_of_each_length(rt: &impl Abort) -> Result<(), Fail> {
     for (number, numeral) in cases {
         for length in 0..26 {
             let mut column = [0; 25];
-            check_write(rt, number, numeral, &mut column[..length]).note(numeral)?;
+            check_write(rt, number, numeral, &mut column[..length]);
         }
     }
-    Ok(())
 }
 
 fn writes_into_a_part_of_a_text(rt: &impl Abort) {
@@ -180,11 +177,10 @@ fn writes_into_a_part_of_a_text(rt: &impl Abort) {
 }
 
 #[test]
-fn numbers_in_columns(rt: HostRuntime) -> Result<(), Fail> {
+fn numbers_in_columns(rt: HostRuntime) {
     reads_a_number(&rt);
     reads_no_number(&rt);
     reads_a_number_that_does_not_fit(&rt);
-    writes_into_columns_of_each_length(&rt)?;
+    writes_into_columns_of_each_length(&rt);
     writes_into_a_part_of_a_text(&rt);
-    Ok(())
 }

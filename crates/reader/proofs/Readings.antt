@@ -4,7 +4,7 @@ use Rattle.reader.specs.Readings.{Ahead}
 use Rattle.reader.specs.Texts.{Fit, OneLine, FirstNewline}
 use Rattle.reader.specs.declared.reader.Reader.{Reader}
 use Rattle.std.proofs.lemmas.List.Edits.{get_or-between, length-between}
-use Rattle.std.proofs.lemmas.List.{drop_drop}
+use Rattle.std.proofs.lemmas.List.{drop-drop}
 use Rattle.std.specs.List.{between}
 
 module _ (text : List ℕ) (start end : ℕ) (first : FirstNewline text start end) where
@@ -12,7 +12,7 @@ module _ (text : List ℕ) (start end : ℕ) (first : FirstNewline text start en
   next_line : drop start text ≡ between start end text ++ (10 ∷ drop (suc end) text)
   next_line =
       let on : drop (end - start) (drop start text) ≡ 10 ∷ drop (suc end) text =
-      drop_drop (end - start) start text ∙ ap (λ n. drop n text) (omega (arith, first.forward)) ∙ drop-cons text end 0 first.within ∙ ap (λ b. b ∷ drop (suc end) text) first.here in
+      drop-drop (end - start) start text ∙ ap (λ n. drop n text) (omega (arith, first.forward)) ∙ drop-cons text end 0 first.within ∙ ap (λ b. b ∷ drop (suc end) text) first.here in
       sym (take-append-drop (end - start) (drop start text)) ∙ ap (λ l. between start end text ++ l) on
 
   -- as long as it is to the newline

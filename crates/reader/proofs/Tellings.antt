@@ -8,7 +8,7 @@ use Rattle.lines.specs.declared.cause.Cause.{Cause}
 use Rattle.reader.specs.declared.fault.Fault.{Fault}
 use Rattle.lines.specs.declared.line.Line.{Line}
 use Rattle.reader.specs.declared.reader.Reader.{Reader}
-use Rattle.std.proofs.lemmas.List.{drop_drop}
+use Rattle.std.proofs.lemmas.List.{drop-drop}
 use Rattle.std.proofs.lemmas.Bool.Decides.{eqb_tells}
 use Rattle.std.specs.List.{flat_map}
 
@@ -83,9 +83,9 @@ rest_after k s t line h =
     let n = length h.bytes in
     let on : t.place ≡ s.place + (n + 1) = h.place ∙ omega arith in
     ap₂ (λ p x. drop p x.now) on h.text
-    ∙ sym (drop_drop (n + 1) s.place s.text.now)
+    ∙ sym (drop-drop (n + 1) s.place s.text.now)
     ∙ ap (drop (n + 1)) h.ahead.ends
-    ∙ sym (drop_drop 1 n (h.bytes ++ (10 ∷ h.ahead.after)))
+    ∙ sym (drop-drop 1 n (h.bytes ++ (10 ∷ h.ahead.after)))
     ∙ ap (drop 1) (drop_at h.bytes (10 ∷ h.ahead.after) n refl)
 
 -- reading on from a place of a fit text hands out the lines that are left
