@@ -7,7 +7,7 @@ use Rattle.std.proofs.lemmas.Simd.{map-map}
 use Rattle.std.proofs.lemmas.List.{map_push, map-id, get_or-map, length_push}
 use Rattle.std.proofs.str.Laws.{order}
 use Rattle.std.specs.Int.Digits.{digits_of, number_from_digits}
-use Rattle.std.specs.List.{AllByRecursion as All}
+use Rattle.std.specs.List.{AllByRecursion}
 use Rattle.std.specs.Int.{IsInRange}
 use Rattle.columns.specs.Columns.{decimal}
 
@@ -54,7 +54,7 @@ decimal_push n d some small =
     decimal_step (n * 10 + d) (omega arith) ∙ simp (front, last)
 
 -- each byte is a digit
-pub digits_decimal : (n : ℕ) → All (IsInRange 48 57) (decimal n)
+pub digits_decimal : (n : ℕ) → AllByRecursion (IsInRange 48 57) (decimal n)
 unfolding decimal
 digits_decimal zero = (search arith, tt)
 digits_decimal (suc n) =

@@ -3,7 +3,7 @@ use Rattle.std.proofs.Common.{◌≡◌, ℕ, zero, suc, ◌+◌, ◌-◌, ◌*�
 use Rattle.std.proofs.ByRecursion.{All-get_or}
 use Rattle.std.proofs.lemmas.List.{take_more, take_all}
 use Rattle.std.specs.Option.{ok_or}
-use Rattle.std.specs.List.{AllByRecursion as All}
+use Rattle.std.specs.List.{AllByRecursion}
 use Rattle.std.specs.Int.{IsInRange}
 use Rattle.columns.proofs.Decimals.{decimal_digit, decimal_push, digits_decimal, some_decimal, decimal_not, above_zero, zero_alone, same_from_decimal}
 use Rattle.columns.specs.Columns.{decimal, numeral}
@@ -74,7 +74,7 @@ no_number_empty bytes none n spelt = omega (arith, some_decimal n, ap length spe
 -- nor another byte among them
 pub no_number_other : (bytes : List ℕ) (i : ℕ) → i < length bytes → (IsInRange 48 57 (get_or bytes i 0) → ⊥) → Measures bytes (Err NoNumber)
 no_number_other bytes i within other n spelt =
-    other (All-get_or (IsInRange 48 57) bytes i 0 within (subst (All (IsInRange 48 57)) (sym spelt) (digits_decimal n)))
+    other (All-get_or (IsInRange 48 57) bytes i 0 within (subst (AllByRecursion (IsInRange 48 57)) (sym spelt) (digits_decimal n)))
 
 -- nor a zero before others
 pub no_number_zero_first : (bytes : List ℕ) → get_or bytes 0 0 ≡ 48 → 1 < length bytes → Measures bytes (Err NoNumber)

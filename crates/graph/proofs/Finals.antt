@@ -1,6 +1,6 @@
 -- Final times: each pin has one, together they meet the list, and none is above zero. Assumes nothing.
 use Rattle.std.proofs.Common.{◌≡◌, ℕ, zero, suc, ◌+◌, ◌<◌, ◌≤◌, ◌⊎◌, List, [], ◌∷◌, Some, None, Option, unwrap_or, sym, refl, ap, subst, inl, inr, arith}
-use Rattle.std.specs.List.{ContainsAt as Has, AllByRecursion as All}
+use Rattle.std.specs.List.{ContainsAt, AllByRecursion}
 use Rattle.std.proofs.ByRecursion.{all_has_itself, All-weaker}
 use Rattle.std.proofs.lemmas.Bool.{cases_eq}
 use Rattle.kinds.specs.Rows.{Row, zeros, plus, Le}
@@ -16,7 +16,7 @@ use Rattle.graph.proofs.Unique.{record_leg_at}
 use Rattle.graph.proofs.Keeping.{meets_from_keeps}
 
 -- two facts of each element give a third
-pub all_both : {X : Type 0} (P Q R : X → Type 0) → ((x : X) → P x → Q x → R x) → (xs : List X) → All P xs → All Q xs → All R xs
+pub all_both : {X : Type 0} (P Q R : X → Type 0) → ((x : X) → P x → Q x → R x) → (xs : List X) → AllByRecursion P xs → AllByRecursion Q xs → AllByRecursion R xs
 all_both P Q R f [] p q = tt
 all_both P Q R f (x ∷ xs) p q = (f x p.0 q.0, all_both P Q R f xs p.1 q.1)
 
@@ -80,7 +80,7 @@ module _ (k : ℕ) where
       (P : ℕ → Type 0) (rs : List (Record k)) (d : Cells k) (least : LeastOn k P rs d) (t : Schedule k)
       (times : (v : ℕ) → P v → LeastIn P (λ u. d u v) (t v)) where
     -- the time of a leg's goal is at most the way to its start, with the leg after it
-    leg_kept : (r : Record k) → Has rs r → (e : End) (g : Leg k) → P g.from → P g.to → leg_of k r e ≡ Some g → Keeps k t g
+    leg_kept : (r : Record k) → ContainsAt rs r → (e : End) (g : Leg k) → P g.from → P g.to → leg_of k r e ≡ Some g → Keeps k t g
     leg_kept r has e g pf pt h =
         let (u, pu, at-u) = (times g.from pf).0 in
         let (p, at_p) = record_leg_at k rs r e g has h in
@@ -96,7 +96,7 @@ module _ (k : ℕ) where
         (le_at_most k (t g.to) (d u g.to) (plus k (t g.from) g.length) ((times g.to pt).1 u pu) bound)
 
     -- the least of each column, as times, meet each record between the pins
-    least_times_meet : (r : Record k) → Has rs r → P r.first → P r.second → Meets k t r
+    least_times_meet : (r : Record k) → ContainsAt rs r → P r.first → P r.second → Meets k t r
     least_times_meet r has pi pj = meets_from_keeps k t r by
       where
         by : (e : End) (g : Leg k) → leg_of k r e ≡ Some g → Keeps k t g
@@ -113,9 +113,9 @@ module _ (k : ℕ) where
 
   -- it meets all records between the pins of a table
   pub earliest_meets :
-      (lo m : ℕ) (rs : List (Record k)) (d : Cells k) → LeastOn k (From lo m) rs d → All (Among lo m) rs → MeetsAll k (earliest d lo m) rs
+      (lo m : ℕ) (rs : List (Record k)) (d : Cells k) → LeastOn k (From lo m) rs d → AllByRecursion (Among lo m) rs → MeetsAll k (earliest d lo m) rs
   earliest_meets lo m rs d least pins =
-      all_both (Has rs) (Among lo m) (Meets k (earliest d lo m))
+      all_both (ContainsAt rs) (Among lo m) (Meets k (earliest d lo m))
       (λ r has p. least_times_meet (From lo m) rs d least (earliest d lo m) times r has p.0 p.1) rs (all_has_itself rs) pins
     where
       times : (v : ℕ) → From lo m v → LeastIn (From lo m) (λ u. d u v) (earliest d lo m v)
@@ -124,12 +124,12 @@ module _ (k : ℕ) where
           subst (LeastIn (From lo m) (λ u. d u v)) (sym (ap (λ (c : Option (Row k)). unwrap_or c (zeros k)) at-t)) low
 
   -- the pins of fit records are some of n from 1 on
-  pub fit_pins : (n : ℕ) (rs : List (Record k)) → All (Fit k n) rs → All (Among 1 n) rs
+  pub fit_pins : (n : ℕ) (rs : List (Record k)) → AllByRecursion (Fit k n) rs → AllByRecursion (Among 1 n) rs
   fit_pins n rs fit =
       All-weaker (Fit k n) (Among 1 n) (λ r f. (omega (arith, f.first_pin), omega (arith, f.second_pin))) rs fit
 
   -- fit records that have a table are met by some schedule
-  pub table_feasible : (n : ℕ) (rs : List (Record k)) (d : Cells k) → All (Fit k n) rs → Table k n rs d → Feasible k rs
+  pub table_feasible : (n : ℕ) (rs : List (Record k)) (d : Cells k) → AllByRecursion (Fit k n) rs → Table k n rs d → Feasible k rs
   table_feasible n rs d fit table =
       (earliest d 1 n, earliest_meets 1 n rs d (λ u v p q. table.least u v (omega arith) (omega arith)) (fit_pins n rs fit))
 
@@ -150,7 +150,7 @@ one_final_time k n rs d table v pin =
 -- they are the least of each column, and the diagonal is zero
 pub final_times_meet_the_list : FinalTimesMeetTheList
 final_times_meet_the_list k n rs d t fit table final = (
-  all_both (Has rs) (Fit k n) (Meets k t)
+  all_both (ContainsAt rs) (Fit k n) (Meets k t)
       (λ r has f. least_times_meet k (Pin n) rs d table.least t (λ v p. ((final v p).reached, (final v p).least)) r has f.first_pin f.second_pin)
       rs (all_has_itself rs) fit,
   λ v p. le_at_most k (t v) (d v v) (zeros k) ((final v p).least v p) (at_most_some k (d v v) (zeros k) (table.diagonal v p)),

@@ -1,6 +1,6 @@
 -- Schedules that meet records keep their legs, and with them each chain. Assumes nothing.
 use Rattle.std.proofs.Common.{◌≡◌, ℕ, List, [], ◌∷◌, Some, None, Option, refl, subst}
-use Rattle.std.specs.List.{AllByRecursion as All}
+use Rattle.std.specs.List.{AllByRecursion}
 use Rattle.std.proofs.ByRecursion.{all-has}
 use Rattle.kinds.specs.Rows.{Row, zeros, plus, opposite, minus, Le}
 use Rattle.graph.specs.Schedules.{Schedule, skew, Record, NotAbove, Meets, MeetsAll}
@@ -47,7 +47,7 @@ module _ (k : ℕ) where
   -- along a chain the time grows by no more than the chain's length
   chain_kept :
       (t : Schedule k) (rs : List (Record k)) → MeetsAll k t rs
-      → (ss : List (Step k)) (u v : ℕ) → All (StepOf k rs) ss → Leads k u ss v → Le k (t v) (plus k (t u) (length_of k ss))
+      → (ss : List (Step k)) (u v : ℕ) → AllByRecursion (StepOf k rs) ss → Leads k u ss v → Le k (t v) (plus k (t u) (length_of k ss))
   chain_kept t rs m [] u v taken joined = rw (plus_zeros k (t u), joined) (le_refl k (t v))
   chain_kept t rs m (s ∷ ss) u v taken joined =
       let g : Leg k = s.leg in

@@ -1,6 +1,6 @@
 -- A chain that enters a pin twice has a loop that can be cut out. Assumes nothing.
 use Rattle.std.proofs.Common.{◌≡◌, ℕ, ◌+◌, ◌<◌, ◌⊎◌, List, [], ◌∷◌, length, sym, ap, ◌∙◌, inl, inr, arith}
-use Rattle.std.specs.List.{AllByRecursion as All}
+use Rattle.std.specs.List.{AllByRecursion}
 use Rattle.std.proofs.lemmas.Bool.{cases_eq}
 use Rattle.kinds.specs.Rows.{Row, plus}
 use Rattle.graph.specs.Schedules.{Record}
@@ -47,14 +47,14 @@ module _ (k : ℕ) (rs : List (Record k)) where
 
   -- a chain enters x, or never does
   pub through_or_not :
-      (ss : List (Step k)) (u v x : ℕ) → All (StepOf k rs) ss → Leads k u ss v
-      → All (λ y. x ≡ y → ⊥) (entered k ss) ⊎ Through k rs u ss v x
+      (ss : List (Step k)) (u v x : ℕ) → AllByRecursion (StepOf k rs) ss → Leads k u ss v
+      → AllByRecursion (λ y. x ≡ y → ⊥) (entered k ss) ⊎ Through k rs u ss v x
   through_or_not [] u v x taken joined = inl tt
   through_or_not (s ∷ ss) u v x taken joined = by (cases_eq x s.leg.to) (through_or_not ss s.leg.to v x taken.1 joined.1)
     where
       by :
-          Decided (x ≡ s.leg.to) → All (λ y. x ≡ y → ⊥) (entered k ss) ⊎ Through k rs s.leg.to ss v x
-          → All (λ y. x ≡ y → ⊥) (entered k (s ∷ ss)) ⊎ Through k rs u (s ∷ ss) v x
+          Decided (x ≡ s.leg.to) → AllByRecursion (λ y. x ≡ y → ⊥) (entered k ss) ⊎ Through k rs s.leg.to ss v x
+          → AllByRecursion (λ y. x ≡ y → ⊥) (entered k (s ∷ ss)) ⊎ Through k rs u (s ∷ ss) v x
       by (inl e) later = inr (record {
         front = s ∷ [];
         back = ss;
@@ -85,14 +85,14 @@ module _ (k : ℕ) (rs : List (Record k)) where
 
   -- a chain enters no pin twice, or has a loop with a step outside it
   pub once_or_loop :
-      (ss : List (Step k)) (u v : ℕ) → All (StepOf k rs) ss → Leads k u ss v
+      (ss : List (Step k)) (u v : ℕ) → AllByRecursion (StepOf k rs) ss → Leads k u ss v
       → NoneTwice (entered k ss) ⊎ ((l : LoopIn k rs u ss v) × (0 < length l.rest))
   once_or_loop [] u v taken joined = inl tt
   once_or_loop (s ∷ ss) u v taken joined =
       by (through_or_not ss s.leg.to v s.leg.to taken.1 joined.1) (once_or_loop ss s.leg.to v taken.1 joined.1)
     where
       by :
-          All (λ y. s.leg.to ≡ y → ⊥) (entered k ss) ⊎ Through k rs s.leg.to ss v s.leg.to
+          AllByRecursion (λ y. s.leg.to ≡ y → ⊥) (entered k ss) ⊎ Through k rs s.leg.to ss v s.leg.to
           → NoneTwice (entered k ss) ⊎ ((l : LoopIn k rs s.leg.to ss v) × (0 < length l.rest))
           → NoneTwice (entered k (s ∷ ss)) ⊎ ((l : LoopIn k rs u (s ∷ ss) v) × (0 < length l.rest))
       by p (inr (l, some)) = inr (loop_more s u ss v taken.0 joined.0 l, omega arith)

@@ -1,6 +1,6 @@
 -- Pins that stand once each, among 1 to n, are at most n. Assumes nothing.
 use Rattle.std.proofs.Common.{◌≡◌, ℕ, zero, suc, ◌≤◌, Bool, true, false, cond, not, eqb, List, [], ◌∷◌, length, filter, refl, ap, arith}
-use Rattle.std.specs.List.{AllByRecursion as All}
+use Rattle.std.specs.List.{AllByRecursion}
 use Rattle.std.proofs.ByRecursion.{all_kept_by, kept_by_passes}
 use Rattle.std.proofs.lemmas.Bool.{eqb-true}
 use Rattle.std.proofs.lemmas.Bool.Decides.{nat_tests}
@@ -22,7 +22,7 @@ others_none_twice m (u ∷ us) h = by (eqb m u) (others_none_twice m us h.1)
     by false rest = (all_kept_by (λ v. not (eqb m v)) (λ v. u ≡ v → ⊥) us h.0, rest)
 
 -- where m does not stand, the others are all
-others_absent : (m : ℕ) (us : List ℕ) → All (λ v. m ≡ v → ⊥) us → others m us ≡ us
+others_absent : (m : ℕ) (us : List ℕ) → AllByRecursion (λ v. m ≡ v → ⊥) us → others m us ≡ us
 others_absent m [] h = refl
 others_absent m (u ∷ us) h = by (eqb m u) refl (others_absent m us h.1)
   where
@@ -44,7 +44,7 @@ length_others m (u ∷ us) h = by (eqb m u) refl (length_others m us h.1)
     by false e rest = omega arith
 
 -- without the highest pin they are among one less
-others_pins : (n : ℕ) (us : List ℕ) → All (Pin (suc n)) us → All (Pin n) (others (suc n) us)
+others_pins : (n : ℕ) (us : List ℕ) → AllByRecursion (Pin (suc n)) us → AllByRecursion (Pin n) (others (suc n) us)
 others_pins n us h =
     all_both (Pin (suc n)) (λ u. not (eqb (suc n) u) ≡ true) (Pin n) by (others (suc n) us)
     (all_kept_by (λ u. not (eqb (suc n) u)) (Pin (suc n)) us h) (kept_by_passes (λ u. not (eqb (suc n) u)) us)
@@ -53,7 +53,7 @@ others_pins n us h =
     by u p e = grind (arith, nat_tests)
 
 -- the pins but the highest are among n − 1, and are at most one less
-pub pins_at_most : (n : ℕ) (us : List ℕ) → NoneTwice us → All (Pin n) us → length us ≤ n
+pub pins_at_most : (n : ℕ) (us : List ℕ) → NoneTwice us → AllByRecursion (Pin n) us → length us ≤ n
 pins_at_most zero [] h p = omega arith
 pins_at_most zero (u ∷ us) h p = absurd (omega arith)
 pins_at_most (suc n) us h p =

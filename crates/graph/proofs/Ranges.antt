@@ -1,6 +1,6 @@
 -- What is refused is what no schedule meets, and a range is what schedules have. Assumes nothing.
 use Rattle.std.proofs.Common.{◌≡◌, ℕ, ◌+◌, ◌≤◌, List, [], ◌∷◌, ◌++◌, length, take, Some, None, Option, sym, refl, ap, ◌∙◌, subst, inl, inr, arith}
-use Rattle.std.specs.List.{AllByRecursion as All}
+use Rattle.std.specs.List.{AllByRecursion}
 use Rattle.std.proofs.ByRecursion.{All-push, All-take}
 use Rattle.std.proofs.lemmas.List.{take-append-le, take_at, append_assoc, length-append}
 use Rattle.kinds.specs.Rows.{Row, minus, Le}
@@ -17,11 +17,11 @@ use Rattle.graph.proofs.Finals.{Among, earliest, earliest_meets, fit_pins, table
 use Rattle.graph.proofs.Closed.{short_infeasible, short_above, short_below}
 
 -- what holds of each element of two lists together holds in both
-all_parts : {X : Type 0} (P : X → Type 0) → (xs ys : List X) → All P (xs ++ ys) → All P xs × All P ys
+all_parts : {X : Type 0} (P : X → Type 0) → (xs ys : List X) → AllByRecursion P (xs ++ ys) → AllByRecursion P xs × AllByRecursion P ys
 all_parts P [] ys h = (tt, h)
 all_parts P (x ∷ xs) ys h = let (p, q) = all_parts P xs ys h.1 in ((h.0, p), q)
 
-module _ (k n : ℕ) (rs : List (Record k)) (d : Cells k) (fit : All (Fit k n) rs) (table : Table k n rs d) where
+module _ (k n : ℕ) (rs : List (Record k)) (d : Cells k) (fit : AllByRecursion (Fit k n) rs) (table : Table k n rs d) where
   -- a record between the pins that fits the range is met, together with the list, by some schedule
   schedule_for :
       (r : Record k) → Pin n r.first → Pin n r.second → NotAbove k r.low r.high → LowFits k d r → HighFits k d r

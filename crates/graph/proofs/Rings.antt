@@ -1,7 +1,7 @@
 -- No schedule meets a list exactly when it has a ring. Records are added one by one; the first that cannot be added closes
 -- a chain shorter than zero, and with its loops taken apart some part of that enters no pin twice. Assumes nothing.
 use Rattle.std.proofs.Common.{◌≡◌, ℕ, zero, suc, ◌+◌, ◌<◌, ◌≤◌, max, ◌⊎◌, List, [], ◌∷◌, ◌++◌, length, refl, inl, inr, arith}
-use Rattle.std.specs.List.{ContainsAt as Has, AllByRecursion as All}
+use Rattle.std.specs.List.{ContainsAt, AllByRecursion}
 use Rattle.std.proofs.ByRecursion.{has_append_left, has_push, has_push_cases}
 use Rattle.kinds.specs.Rows.{zeros, plus, Le}
 use Rattle.graph.specs.Schedules.{Record, NotAbove, Feasible}
@@ -62,16 +62,16 @@ module _ (k : ℕ) where
   same_moved : (rs : List (Record k)) (r : Record k) → Same k (rs ++ r ∷ []) (r ∷ rs)
   same_moved rs r x = (λ h. there (has_push_cases rs r x h), back)
     where
-      there : Has rs x ⊎ (r ≡ x) → Has (r ∷ rs) x
+      there : ContainsAt rs x ⊎ (r ≡ x) → ContainsAt (r ∷ rs) x
       there (inl (p, l, at)) = (suc p, omega arith, at)
       there (inr e) = (0, omega arith, λ d. e)
 
-      back : Has (r ∷ rs) x → Has (rs ++ r ∷ []) x
+      back : ContainsAt (r ∷ rs) x → ContainsAt (rs ++ r ∷ []) x
       back (zero, l, at) = rw (← at r) (has_push rs r)
       back (suc p, l, at) = has_append_left rs (r ∷ []) x (p, omega arith, at)
 
   -- a closed chain stays one over a list that has all the records
-  short_over : (rs rs' : List (Record k)) → ((r : Record k) → Has rs r → Has rs' r) → Short k rs → Short k rs'
+  short_over : (rs rs' : List (Record k)) → ((r : Record k) → ContainsAt rs r → ContainsAt rs' r) → Short k rs → Short k rs'
   short_over rs rs' f (u, w, h, below) = (u, w, reaches_over k rs rs' f u u w h, below)
 
   -- the least lengths between m pins from lo on are known, or some closed chain is shorter than zero
@@ -100,7 +100,7 @@ module _ (k : ℕ) where
   )
 
   -- record by record
-  settled : (lo m : ℕ) (rs : List (Record k)) → All (Among lo m) rs → Settled lo m rs
+  settled : (lo m : ℕ) (rs : List (Record k)) → AllByRecursion (Among lo m) rs → Settled lo m rs
   settled lo m [] pins = inl (no_bounds k, λ u v p q. no_bounds_least k u v)
   settled lo m (r ∷ rs) pins = by (settled lo m rs pins.1)
     where
@@ -116,7 +116,7 @@ module _ (k : ℕ) where
   highest (r ∷ rs) = max (max r.first r.second) (highest rs)
 
   -- all pins are below each greater number
-  highest_bounds : (rs : List (Record k)) (m : ℕ) → highest rs < m → All (Among 0 m) rs
+  highest_bounds : (rs : List (Record k)) (m : ℕ) → highest rs < m → AllByRecursion (Among 0 m) rs
   highest_bounds [] m h = tt
   highest_bounds (r ∷ rs) m h = ((omega arith, omega arith), highest_bounds rs m (omega arith))
 
@@ -124,11 +124,11 @@ module _ (k : ℕ) where
   feasible_or_short : (rs : List (Record k)) → Feasible k rs ⊎ Short k rs
   feasible_or_short rs = by (highest rs + 1) (highest_bounds rs (highest rs + 1) (omega arith))
     where
-      known : (m : ℕ) → All (Among 0 m) rs → Settled 0 m rs → Feasible k rs ⊎ Short k rs
+      known : (m : ℕ) → AllByRecursion (Among 0 m) rs → Settled 0 m rs → Feasible k rs ⊎ Short k rs
       known m pins (inl (d, least)) = inl (earliest k d 0 m, earliest_meets k 0 m rs d least pins)
       known m pins (inr h) = inr h
 
-      by : (m : ℕ) → All (Among 0 m) rs → Feasible k rs ⊎ Short k rs
+      by : (m : ℕ) → AllByRecursion (Among 0 m) rs → Feasible k rs ⊎ Short k rs
       by m pins = known m pins (settled 0 m rs pins)
 
 -- both ways

@@ -1,7 +1,7 @@
 -- Cells stay within n − 1 times the largest end: a chain that passes a pin twice has one at most as long with the loop cut out,
 -- and one that passes none twice has at most n − 1 steps. A ring has at most n. Assumes nothing.
 use Rattle.std.proofs.Common.{◌≡◌, ℕ, zero, suc, ◌+◌, ◌-◌, ◌*◌, ◌<◌, ◌≤◌, ◌⊎◌, List, [], ◌∷◌, length, Some, None, Option, refl, subst, inl, inr, mul-le-mul_right, suc-mul, arith}
-use Rattle.std.specs.List.{AllByRecursion as All}
+use Rattle.std.specs.List.{AllByRecursion}
 use Rattle.std.proofs.ByRecursion.{all-has, All-weaker, All-map}
 use Rattle.std.proofs.lemmas.List.{length-map}
 use Rattle.kinds.specs.Rows.{Row, zeros, plus, Le, Within}
@@ -53,7 +53,7 @@ module _ (k : ℕ) (rs : List (Record k)) where
     where
       by :
           NoneTwice (entered k ss) ⊎ ((l : LoopIn k rs u ss v) × (0 < length l.rest))
-          → All (λ y. u ≡ y → ⊥) (entered k ss) ⊎ Through k rs u ss v u
+          → AllByRecursion (λ y. u ≡ y → ⊥) (entered k ss) ⊎ Through k rs u ss v u
           → ((ts : List (Step k)) → length ts ≤ n → Chain k rs u ts v → Direct u v (length_of k ts)) → Direct u v (length_of k ss)
       by (inr (l, some)) p again =
           direct_le u v (length_of k l.rest) (length_of k ss)
@@ -66,7 +66,7 @@ module _ (k : ℕ) (rs : List (Record k)) where
       by (inl once) (inl never) again = record { steps = ss; chain = c; once = (never, once); upto = le_refl k (length_of k ss) }
 
   -- each step enters a pin
-  entered_pins : (n : ℕ) → All (Fit k n) rs → (ss : List (Step k)) → All (StepOf k rs) ss → All (Pin n) (entered k ss)
+  entered_pins : (n : ℕ) → AllByRecursion (Fit k n) rs → (ss : List (Step k)) → AllByRecursion (StepOf k rs) ss → AllByRecursion (Pin n) (entered k ss)
   entered_pins n fit ss taken = All-map (Pin n) (λ s. s.leg.to) ss (All-weaker (StepOf k rs) (λ s. Pin n s.leg.to) pin ss taken)
     where
       by : (r : Record k) → Fit k n r → (e : End) (g : Leg k) → leg_of k r e ≡ Some g → Pin n g.to
@@ -79,7 +79,7 @@ module _ (k : ℕ) (rs : List (Record k)) where
           by r (all-has (Fit k n) rs r fit has) s.end s.leg e
 
   -- the length of a leg is as small as the ends are
-  leg_within : (limit : ℕ) → All (EndsWithin k limit) rs → (s : Step k) → StepOf k rs s → Within k limit s.leg.length
+  leg_within : (limit : ℕ) → AllByRecursion (EndsWithin k limit) rs → (s : Step k) → StepOf k rs s → Within k limit s.leg.length
   leg_within limit small s h =
       let (r, has, e) = leg_at_record k rs s.number s.end s.leg h in
       by r (all-has (EndsWithin k limit) rs r small has) s.end s.leg e
@@ -96,7 +96,7 @@ module _ (k : ℕ) (rs : List (Record k)) where
 
   -- the length of a chain is within the number of its steps times the limit
   chain_within :
-      (limit : ℕ) → All (EndsWithin k limit) rs → (ss : List (Step k)) → All (StepOf k rs) ss
+      (limit : ℕ) → AllByRecursion (EndsWithin k limit) rs → (ss : List (Step k)) → AllByRecursion (StepOf k rs) ss
       → Within k (length ss * limit) (length_of k ss)
   chain_within limit small [] taken = within_zeros k (0 * limit)
   chain_within limit small (s ∷ ss) taken =

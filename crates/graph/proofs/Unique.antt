@@ -1,6 +1,6 @@
 -- Lists with the same records reach the same lengths, so a table is unique. Assumes nothing.
 use Rattle.std.proofs.Common.{◌≡◌, ℕ, zero, suc, List, [], ◌∷◌, Some, None, Option, refl, ap, ◌∙◌, arith}
-use Rattle.std.specs.List.{ContainsAt as Has, AllByRecursion as All}
+use Rattle.std.specs.List.{ContainsAt, AllByRecursion}
 use Rattle.kinds.specs.Rows.{Row, plus}
 use Rattle.graph.specs.Schedules.{Record}
 use Rattle.graph.specs.Legs.{Leg, End, leg_of, Step, leg_at, StepOf, Leads, length_of}
@@ -14,14 +14,14 @@ module _ (k : ℕ) where
   -- a leg of a list is one of a record that stands there
   pub leg_at_record :
       (rs : List (Record k)) (p : ℕ) (e : End) (g : Leg k) → leg_at k rs p e ≡ Some g
-      → (r : Record k) × Has rs r × (leg_of k r e ≡ Some g)
+      → (r : Record k) × ContainsAt rs r × (leg_of k r e ≡ Some g)
   leg_at_record [] p e g h = absurd (none_some g h)
   leg_at_record (r ∷ rs) zero e g h = (r, (0, omega arith, λ d. refl), h)
   leg_at_record (r ∷ rs) (suc p) e g h = let (x, (q, l, at), f) = leg_at_record rs p e g h in (x, (suc q, omega arith, at), f)
 
   -- each leg of a record that stands in a list is one of the list
   pub record_leg_at :
-      (rs : List (Record k)) (r : Record k) (e : End) (g : Leg k) → Has rs r → leg_of k r e ≡ Some g
+      (rs : List (Record k)) (r : Record k) (e : End) (g : Leg k) → ContainsAt rs r → leg_of k r e ≡ Some g
       → (p : ℕ) × (leg_at k rs p e ≡ Some g)
   record_leg_at [] r e g (q, l, at) h = absurd (omega arith)
   record_leg_at (x ∷ rs) r e g (zero, l, at) h = (0, ap (λ (y : Record k). leg_of k y e) (at r) ∙ h)
@@ -29,8 +29,8 @@ module _ (k : ℕ) where
 
   -- a chain over a list is, but for the numbers, one over each list that has its records
   chain_over :
-      (rs rs' : List (Record k)) → ((r : Record k) → Has rs r → Has rs' r)
-      → (ss : List (Step k)) (u v : ℕ) → All (StepOf k rs) ss → Leads k u ss v → Reaches k rs' u v (length_of k ss)
+      (rs rs' : List (Record k)) → ((r : Record k) → ContainsAt rs r → ContainsAt rs' r)
+      → (ss : List (Step k)) (u v : ℕ) → AllByRecursion (StepOf k rs) ss → Leads k u ss v → Reaches k rs' u v (length_of k ss)
   chain_over rs rs' f [] u v taken joined = ([], record { taken = tt; joined = joined }, refl)
   chain_over rs rs' f (s ∷ ss) u v taken joined =
       let (r, has, e) = leg_at_record rs s.number s.end s.leg taken.0 in
@@ -46,14 +46,14 @@ module _ (k : ℕ) where
 
   -- so what the one list reaches the other reaches
   pub reaches_over :
-      (rs rs' : List (Record k)) → ((r : Record k) → Has rs r → Has rs' r)
+      (rs rs' : List (Record k)) → ((r : Record k) → ContainsAt rs r → ContainsAt rs' r)
       → (u v : ℕ) (w : Row k) → Reaches k rs u v w → Reaches k rs' u v w
   reaches_over rs rs' f u v w (ss, c, e) = rw (← e) (chain_over rs rs' f ss u v c.taken c.joined)
 
   -- a least length is one over each list that reaches the same
   pub least_over :
-      (rs rs' : List (Record k)) (u v : ℕ) (c : Option (Row k)) → ((r : Record k) → Has rs r → Has rs' r)
-      → ((r : Record k) → Has rs' r → Has rs r) → LeastLength k rs u v c → LeastLength k rs' u v c
+      (rs rs' : List (Record k)) (u v : ℕ) (c : Option (Row k)) → ((r : Record k) → ContainsAt rs r → ContainsAt rs' r)
+      → ((r : Record k) → ContainsAt rs' r → ContainsAt rs r) → LeastLength k rs u v c → LeastLength k rs' u v c
   least_over rs rs' u v c there back h =
       least_from k rs' u v c (λ w e. reaches_over rs rs' there u v w (least_reached k rs u v c w h e))
       (λ w g. least_bound k rs u v c w h (reaches_over rs' rs back u v w g))

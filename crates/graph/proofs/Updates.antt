@@ -3,7 +3,7 @@
 -- new leg is absorbed: one leg twice has a way back between that makes up for it, and both legs together bring nothing, so
 -- the new cell is never above the chain. And each new cell is the length of a chain, made of the parts. Assumes nothing.
 use Rattle.std.proofs.Common.{◌≡◌, ℕ, ◌⊎◌, List, [], ◌∷◌, ◌++◌, Some, Option, sym, refl, ap, ◌∙◌, subst, inl, inr}
-use Rattle.std.specs.List.{AllByRecursion as All}
+use Rattle.std.specs.List.{AllByRecursion}
 use Rattle.kinds.specs.Rows.{Row, zeros, plus, opposite, Le}
 use Rattle.graph.specs.Schedules.{Record, NotAbove}
 use Rattle.graph.specs.Legs.{Leg, End, Low, High, leg_of, Step, StepOf, Leads, Chain, length_of}
@@ -151,7 +151,7 @@ module _ (k : ℕ) where
       -- a chain over the longer list, behind one over the shorter, is matched
       matched_all :
           (ss : List (Step k)) (x v u : ℕ) (ps : List (Step k)) → P u → P v → Chain k rs u ps x
-          → All (StepOf k (rs ++ r ∷ [])) ss → Leads k x ss v → New u v (plus k (length_of k ps) (length_of k ss))
+          → AllByRecursion (StepOf k (rs ++ r ∷ [])) ss → Leads k x ss v → New u v (plus k (length_of k ps) (length_of k ss))
       matched_all [] x v u ps pu pv c taken joined =
           inl (least_bound k rs u v (d u v) (plus k (length_of k ps) (zeros k)) (least u v pu pv)
           (ps, rw (← joined) c, sym (plus_zeros k (length_of k ps))))

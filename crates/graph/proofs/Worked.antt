@@ -1,6 +1,6 @@
 -- The worked examples hold: tables are reached record by record, and the rest is computed. Assumes nothing.
 use Rattle.std.proofs.Common.{ℕ, zero, suc, ◌-◌, ◌<◌, List, [], ◌∷◌, get_or, take, Some, None, refl, inl, inr, arith}
-use Rattle.std.specs.List.{AllByRecursion as All}
+use Rattle.std.specs.List.{AllByRecursion}
 use Rattle.kinds.specs.Rows.{Row, zeros}
 use Rattle.graph.specs.Schedules.{Schedule, Record, Feasible}
 use Rattle.graph.specs.Legs.{End, Low, High, Step, Ring}
@@ -198,7 +198,7 @@ round_before (suc (suc zero)) h = (timed 2 (two (up 0) (down 2) ∷ two (up 0) (
 round_before (suc (suc (suc l))) h = absurd (omega arith)
 
 -- no end of the opened sheet is above 9 in size
-opened_within : All (EndsWithin 1 9) opened
+opened_within : AllByRecursion (EndsWithin 1 9) opened
 opened_within = (((omega arith, tt), (omega arith, tt)), (((omega arith, tt), (omega arith, tt)), (((omega arith, tt), (omega arith, tt)), tt)))
 
 -- from 4 to 9 with no guard

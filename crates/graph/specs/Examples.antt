@@ -20,7 +20,7 @@
 --     WorkedExamplesHold    the answers of all of them are right
 use Rattle.std.specs.Prelude.{◌≡◌, ℕ, suc, ◌-◌, List, [], ◌∷◌, ◌++◌, length, ℤ, pos, neg_ℤ, Some, None, Option, slice_index_or}
 use Rattle.kinds.specs.Rows.{Row}
-use Rattle.std.specs.List.{AllByRecursion as All}
+use Rattle.std.specs.List.{AllByRecursion}
 use Rattle.graph.specs.Schedules.{Pin, Record, Feasible, LeastConflict, Fit}
 use Rattle.graph.specs.Legs.{Low, High, Step, length_of, Ring}
 use Rattle.graph.specs.Tables.{Cells, Table, range_low, range_high, cut_low, cut_high, updated, Refused, FinalTime, EndsWithin}
@@ -77,7 +77,7 @@ pub data Answer (k : ℕ) : Type 0 where
   has_ends_within : (limit : ℕ) → Answer k
 
 pub record Sheet (k n : ℕ) (rs : List (Record k)) (d : Cells k) : Type 0 where
-  pub fit : All (Fit k n) rs
+  pub fit : AllByRecursion (Fit k n) rs
   pub table : Table k n rs d
 
 abbrev pub Times : (k n : ℕ) → Cells k → ℕ → List (Row k) → Type 0
@@ -98,7 +98,7 @@ Told k n rs (turns before r after) = (u v : ℕ) → Pin n u → Pin n v → upd
 Told k n rs (has_ring r ss w) = Ring k (r ∷ rs) ss × (length_of k ss ≡ w)
 Told k n rs can_be_met = Feasible k rs
 Told k n rs (conflicts_at m) = LeastConflict k rs m
-Told k n rs (has_ends_within limit) = All (EndsWithin k limit) rs
+Told k n rs (has_ends_within limit) = AllByRecursion (EndsWithin k limit) rs
 
 pub record Example : Type 0 where
   pub numbers : ℕ
@@ -180,4 +180,4 @@ worked =
     ∷ []
 
 abbrev pub WorkedExamplesHold : Type 0
-WorkedExamplesHold = All (λ x. Told x.numbers x.pins x.records x.answer) worked
+WorkedExamplesHold = AllByRecursion (λ x. Told x.numbers x.pins x.records x.answer) worked

@@ -26,13 +26,13 @@
 --         a ring of records on the pins 1 to n has no more steps than pins
 use Rattle.std.specs.Prelude.{◌≡◌, ℕ, ◌+◌, ◌-◌, ◌*◌, ◌≤◌, ◌↔◌, List, [], ◌∷◌, ◌++◌, length, Some}
 use Rattle.kinds.specs.Rows.{Row, zeros, Le}
-use Rattle.std.specs.List.{ContainsAt as Has, AllByRecursion as All}
+use Rattle.std.specs.List.{ContainsAt, AllByRecursion}
 use Rattle.graph.specs.Schedules.{Pin, Schedule, skew, Record, Meets, MeetsAll, Feasible, LeastConflict, Fit}
 use Rattle.graph.specs.Legs.{Leg, End, leg_of, Keeps, Step, Ring}
 use Rattle.graph.specs.Tables.{Cells, Table, no_bounds, InRange, updated, Refused, FinalTime, EndsWithin, CellWithin}
 
 abbrev pub Same : (k : ℕ) → List (Record k) → List (Record k) → Type 0
-Same k rs rs' = (r : Record k) → Has rs r ↔ Has rs' r
+Same k rs rs' = (r : Record k) → ContainsAt rs r ↔ ContainsAt rs' r
 
 abbrev pub MeetingIsKeepingTheLegs : Type 0
 MeetingIsKeepingTheLegs =
@@ -53,17 +53,17 @@ TheUpdateIsTheTable =
 
 abbrev pub RefusedExactlyWhenNoSchedule : Type 0
 RefusedExactlyWhenNoSchedule =
-    (k n : ℕ) (rs : List (Record k)) (d : Cells k) (r : Record k) → All (Fit k n) rs → Table k n rs d → Fit k n r
+    (k n : ℕ) (rs : List (Record k)) (d : Cells k) (r : Record k) → AllByRecursion (Fit k n) rs → Table k n rs d → Fit k n r
     → Refused k d r ↔ (Feasible k (rs ++ r ∷ []) → ⊥)
 
 abbrev pub TheFirstRefusedIsTheLeastConflict : Type 0
 TheFirstRefusedIsTheLeastConflict =
-    (k n : ℕ) (rs later : List (Record k)) (d : Cells k) (r : Record k) → All (Fit k n) rs → Table k n rs d → Fit k n r
+    (k n : ℕ) (rs later : List (Record k)) (d : Cells k) (r : Record k) → AllByRecursion (Fit k n) rs → Table k n rs d → Fit k n r
     → Refused k d r → LeastConflict k (rs ++ r ∷ later) (length rs + 1)
 
 abbrev pub ARangeIsWhatSchedulesHave : Type 0
 ARangeIsWhatSchedulesHave =
-    (k n : ℕ) (rs : List (Record k)) (d : Cells k) → All (Fit k n) rs → Table k n rs d
+    (k n : ℕ) (rs : List (Record k)) (d : Cells k) → AllByRecursion (Fit k n) rs → Table k n rs d
     → (i j : ℕ) (s : Row k) → Pin n i → Pin n j
     → InRange k d i j s ↔ ((t : Schedule k) × MeetsAll k t rs × (skew k t i j ≡ s))
 
@@ -74,13 +74,13 @@ OneFinalTime =
 
 abbrev pub FinalTimesMeetTheList : Type 0
 FinalTimesMeetTheList =
-    (k n : ℕ) (rs : List (Record k)) (d : Cells k) (t : Schedule k) → All (Fit k n) rs → Table k n rs d
+    (k n : ℕ) (rs : List (Record k)) (d : Cells k) (t : Schedule k) → AllByRecursion (Fit k n) rs → Table k n rs d
     → ((v : ℕ) → Pin n v → FinalTime k n d v (t v))
     → MeetsAll k t rs × ((v : ℕ) → Pin n v → Le k (t v) (zeros k))
 
 abbrev pub CellsStayWithin : Type 0
 CellsStayWithin =
-    (k n limit : ℕ) (rs : List (Record k)) (d : Cells k) → All (Fit k n) rs → All (EndsWithin k limit) rs → Table k n rs d
+    (k n limit : ℕ) (rs : List (Record k)) (d : Cells k) → AllByRecursion (Fit k n) rs → AllByRecursion (EndsWithin k limit) rs → Table k n rs d
     → (u v : ℕ) → Pin n u → Pin n v → CellWithin k ((n - 1) * limit) (d u v)
 
 abbrev pub NoScheduleExactlyWhenARing : Type 0
@@ -89,4 +89,4 @@ NoScheduleExactlyWhenARing =
 
 abbrev pub ARingHasAtMostNSteps : Type 0
 ARingHasAtMostNSteps =
-    (k n : ℕ) (rs : List (Record k)) (ss : List (Step k)) → All (Fit k n) rs → Ring k rs ss → length ss ≤ n
+    (k n : ℕ) (rs : List (Record k)) (ss : List (Step k)) → AllByRecursion (Fit k n) rs → Ring k rs ss → length ss ≤ n

@@ -16,7 +16,7 @@
 use Rattle.std.specs.Prelude.{◌≡◌, ℕ, zero, suc, List, [], ◌∷◌, map, Some, None, Option, ◌≢◌}
 use Rattle.kinds.specs.Rows.{Row, zeros, plus, minus, opposite, Le}
 use Rattle.std.specs.Option.{option_map}
-use Rattle.std.specs.List.{AllByRecursion as All}
+use Rattle.std.specs.List.{AllByRecursion}
 use Rattle.graph.specs.Schedules.{Schedule, Record}
 
 pub record Leg (k : ℕ) : Type 0 where
@@ -55,7 +55,7 @@ Leads k u [] v = u ≡ v
 Leads k u (s ∷ ss) v = (u ≡ s.leg.from) × Leads k s.leg.to ss v
 
 pub record Chain (k : ℕ) (rs : List (Record k)) (u : ℕ) (ss : List (Step k)) (v : ℕ) : Type 0 where
-  pub taken : All (StepOf k rs) ss
+  pub taken : AllByRecursion (StepOf k rs) ss
   pub joined : Leads k u ss v
 
 abbrev pub length_of : (k : ℕ) → List (Step k) → Row k
@@ -67,7 +67,7 @@ entered k ss = map (λ s. s.leg.to) ss
 
 abbrev pub NoneTwice : List ℕ → Type 0
 NoneTwice [] = Unit {0}
-NoneTwice (u ∷ us) = All (λ v. u ≢ v) us × NoneTwice us
+NoneTwice (u ∷ us) = AllByRecursion (λ v. u ≢ v) us × NoneTwice us
 
 -- the chain of no steps has length zero, so a ring has a step
 pub record Ring (k : ℕ) (rs : List (Record k)) (ss : List (Step k)) : Type 0 where

@@ -12,7 +12,7 @@
 --     Fit k n r               the pins are two of 1 to n, an end is there, and low is not above high
 use Rattle.std.specs.Prelude.{◌≡◌, ℕ, ◌<◌, ◌≤◌, List, take, Some, None, Option}
 use Rattle.kinds.specs.Rows.{Row, minus, Le}
-use Rattle.std.specs.List.{AllByRecursion as All}
+use Rattle.std.specs.List.{AllByRecursion}
 
 abbrev pub Pin : ℕ → ℕ → Type 0
 Pin n u = (1 ≤ u) × (u ≤ n)
@@ -42,7 +42,7 @@ abbrev pub Meets : (k : ℕ) → Schedule k → Record k → Type 0
 Meets k t r = Inside k r.low r.high (skew k t r.first r.second)
 
 abbrev pub MeetsAll : (k : ℕ) → Schedule k → List (Record k) → Type 0
-MeetsAll k t rs = All (Meets k t) rs
+MeetsAll k t rs = AllByRecursion (Meets k t) rs
 
 abbrev pub Feasible : (k : ℕ) → List (Record k) → Type 0
 Feasible k rs = (t : Schedule k) × MeetsAll k t rs

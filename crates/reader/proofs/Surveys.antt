@@ -17,7 +17,7 @@ use Rattle.reader.specs.declared.reader.Reader.{Reader}
 use Rattle.reader.specs.declared.summary.Summary.{Summary}
 use Rattle.std.proofs.ByRecursion.{All-push}
 use Rattle.std.proofs.lemmas.List.Sums.{sum_by_push, count_by-le-length}
-use Rattle.std.specs.List.{AllByRecursion as All}
+use Rattle.std.specs.List.{AllByRecursion}
 
 -- the loop's invariant: the reader `start` has handed out ls and is now s, and the summary counts ls
 pub record Sofar (k : ℕ) (start s : Reader) (sum : Summary) : Type 0 where
@@ -43,17 +43,17 @@ none_before None turn = refl
 none_before (Some l) turn = absurd (omega (arith, turn.0))
 
 -- an N line is the first, and shows the number taken over; after it that number stays
-pins_more : (k : ℕ) (last : Option Letter) (n : ℕ) (bytes : List ℕ) (line : Line) (ls : List Line) (before after : ℤ) → Good k last n bytes line → (last ≡ None → ls ≡ []) → NotedPins line before after → All (ShowsPins before) ls → All (ShowsPins after) (ls ++ (line ∷ []))
+pins_more : (k : ℕ) (last : Option Letter) (n : ℕ) (bytes : List ℕ) (line : Line) (ls : List Line) (before after : ℤ) → Good k last n bytes line → (last ≡ None → ls ≡ []) → NotedPins line before after → AllByRecursion (ShowsPins before) ls → AllByRecursion (ShowsPins after) (ls ++ (line ∷ []))
 pins_more k last n bytes (Pins m pins count) ls before after good first noted all =
     let (z, shows) = good.numbers.0 in
     let taken = noted z shows (sfits_shows pins.now z (omega (arith, good.parts.layout.0)) shows) in
-    subst (λ l. All (ShowsPins after) (l ++ (Pins m pins count ∷ []))) (sym (first (none_before last good.turn))) (subst (Shows pins.now) (sym taken) shows, tt)
+    subst (λ l. AllByRecursion (ShowsPins after) (l ++ (Pins m pins count ∷ []))) (sym (first (none_before last good.turn))) (subst (Shows pins.now) (sym taken) shows, tt)
 pins_more k last n bytes (Name m pin name) ls before after good first noted all =
-    subst (λ z. All (ShowsPins z) (ls ++ (Name m pin name ∷ []))) (sym noted) (All-push (ShowsPins before) ls (Name m pin name) all tt)
+    subst (λ z. AllByRecursion (ShowsPins z) (ls ++ (Name m pin name ∷ []))) (sym noted) (All-push (ShowsPins before) ls (Name m pin name) all tt)
 pins_more k last n bytes (Constraint m r) ls before after good first noted all =
-    subst (λ z. All (ShowsPins z) (ls ++ (Constraint m r ∷ []))) (sym noted) (All-push (ShowsPins before) ls (Constraint m r) all tt)
+    subst (λ z. AllByRecursion (ShowsPins z) (ls ++ (Constraint m r ∷ []))) (sym noted) (All-push (ShowsPins before) ls (Constraint m r) all tt)
 pins_more k last n bytes (Commit m r) ls before after good first noted all =
-    subst (λ z. All (ShowsPins z) (ls ++ (Commit m r ∷ []))) (sym noted) (All-push (ShowsPins before) ls (Commit m r) all tt)
+    subst (λ z. AllByRecursion (ShowsPins z) (ls ++ (Commit m r ∷ []))) (sym noted) (All-push (ShowsPins before) ls (Commit m r) all tt)
 
 -- a count with one line more
 many_push : (l : Letter) (ls : List Line) (line : Line) (before after : ℕ) → before ≡ many l ls → after ≡ before + cond (has l line) 1 0 → after ≡ many l (ls ++ (line ∷ []))

@@ -18,7 +18,7 @@ use Rattle.lines.specs.declared.line.Letter.TheVariants.{P, R, C}
 use Rattle.lines.specs.declared.line.Line.{Line}
 use Rattle.lines.specs.declared.line.Line.TheVariants.{Pins, Name, Constraint, Commit}
 use Rattle.reader.specs.declared.summary.Summary.{Summary}
-use Rattle.std.specs.List.{AllByRecursion as All}
+use Rattle.std.specs.List.{AllByRecursion}
 
 abbrev pub has : Letter → Line → Bool
 has l line = rank (letter line) == rank l
@@ -33,7 +33,7 @@ ShowsPins z (Constraint line r) = Unit {0}
 ShowsPins z (Commit line r) = Unit {0}
 
 pub record Counted (ls : List Line) (s : Summary) : Type 0 where
-  pub pins : All (ShowsPins s.pins) ls
+  pub pins : AllByRecursion (ShowsPins s.pins) ls
   pub names : s.names ≡ many P ls
   pub constraints : s.constraints ≡ many R ls
   pub commits : s.commits ≡ many C ls

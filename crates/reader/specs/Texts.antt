@@ -12,7 +12,7 @@
 use Rattle.std.specs.Prelude.{◌≡◌, ℕ, ◌+◌, ◌-◌, ◌<◌, ◌≤◌, List, [], ◌∷◌, ◌++◌, length, Some, None, count_by, Option, ◌≢◌, nat_eq, slice_index, slice_index_or}
 use Rattle.lines.specs.declared.cause.Cause.{Cause}
 use Rattle.reader.specs.declared.fault.Fault.{Fault}
-use Rattle.std.specs.List.{flat_map, AllByRecursion as All}
+use Rattle.std.specs.List.{flat_map, AllByRecursion}
 
 abbrev pub limit : ℕ
 limit = 32_768
@@ -56,4 +56,4 @@ with_newline bytes = bytes ++ (10 ∷ [])
 -- an ended text has one list of lines
 pub record Lines (text : List ℕ) (lines : List (List ℕ)) : Type 0 where
   pub together : flat_map with_newline lines ≡ text
-  pub each : All OneLine lines
+  pub each : AllByRecursion OneLine lines
