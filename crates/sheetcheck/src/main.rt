@@ -3,7 +3,8 @@
 // What is read and printed no contract can say.
 #![tactic(auto)]
 
-ghost use Rattle.std.specs.Prelude.{◌≡◌, false, is_ok};
+ghost use Rattle.std.specs.Prelude.{◌≡◌, false, is_ok, IfOk};
+ghost use Rattle.std.specs.Process.{exit_status};
 ghost use Rattle.sheetcheck.specs.Words.{Named, words};
 
 use anyhow::anyhow;
@@ -15,6 +16,7 @@ use reader::fault::Fault;
 use reader::reader::LIMIT;
 use reader::summary::{Summary, survey};
 use std::io::{Read, Write};
+use std::process::ExitCode;
 use std::{env, io};
 
 #[derive(Clone, Copy)]
@@ -78,27 +80,55 @@ fn words(cause: Cause) -> &'static str
     }
 }
 
+// Why telling a fault ends in an error.
+#[derive(Drop)]
+enum FaultEnd {
+    // The fault is told.
+    Told,
+    // Its line number has no room.
+    NoRoom,
+    // Standard output or standard error did not take it.
+    Unwritten(io::Error),
+}
+
+impl From<io::Error> for FaultEnd {
+    fn from(error: io::Error) -> FaultEnd {
+        FaultEnd::Unwritten(error)
+    }
+}
+
 // The E line on standard output, and in words on standard error what is wrong and where.
 // The answer is always an error, which ends the program with status 1.
-fn print_fault(rt: &HostRuntime, fault: &Fault) -> anyhow::Result<()>
+fn print_fault(rt: &HostRuntime, fault: &Fault) -> Result<(), FaultEnd>
     ensures { is_ok result ≡ false }
 {
     let mut bytes = [b' '; 15];
     if fault.write(&mut bytes).is_err() {
-        return Err(anyhow!("the line number has no room"));
+        return Err(FaultEnd::NoRoom);
     }
     rt.stdout().write_all(&bytes)?;
     rt.stdout().write_all(b"\n")?;
     let line = fault.line;
     let words = words(fault.cause);
     eprintln!(rt; "sheetcheck: line {line}: {words}")?;
-    Err(anyhow!("the sheet has a fault"))
+    Err(FaultEnd::Told)
 }
 
-fn main(rt: HostRuntime) -> anyhow::Result<()> {
+// Status 1 once a fault is told; `main` prints an error that it returns, so what was not told is.
+fn status_after(end: FaultEnd) -> anyhow::Result<ExitCode>
+    ensures { IfOk result (λ code. exit_status code ≡ 1) }
+{
+    match end {
+        FaultEnd::Told => Ok(ExitCode::FAILURE),
+        FaultEnd::NoRoom => Err(anyhow!("the line number has no room")),
+        FaultEnd::Unwritten(error) => Err(error.into()),
+    }
+}
+
+fn main(rt: HostRuntime) -> anyhow::Result<ExitCode> {
     let Some(kind) = kind_asked(&rt)? else {
         eprintln!(rt; "usage: sheetcheck [plain|guarded]")?;
-        return Err(anyhow!("the arguments are not understood"));
+        return Ok(ExitCode::FAILURE);
     };
     let text = read_input(&rt)?;
     let told = match kind {
@@ -106,7 +136,12 @@ fn main(rt: HostRuntime) -> anyhow::Result<()> {
         Kind::Guarded => survey::<Guarded>(text.as_slice()),
     };
     match told {
-        Ok(summary) => Ok(print_summary(&rt, &summary)?),
-        Err(fault) => print_fault(&rt, &fault),
+        Ok(summary) => print_summary(&rt, &summary)?,
+        Err(fault) => {
+            if let Err(end) = print_fault(&rt, &fault) {
+                return status_after(end);
+            }
+        }
     }
+    Ok(ExitCode::SUCCESS)
 }
