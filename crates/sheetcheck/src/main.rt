@@ -3,9 +3,10 @@
 // What is read and printed no contract can say.
 #![tactic(auto)]
 
-ghost use Rattle.std.specs.Prelude.{◌≡◌, false, is_ok, IfOk};
+ghost use Rattle.std.specs.Prelude.{◌≡◌, ◌↔◌, false, is_ok, IsOk, IfOk};
 ghost use Rattle.std.specs.Process.{exit_status};
 ghost use Rattle.sheetcheck.specs.Words.{Named, words};
+ghost use Rattle.sheetcheck.specs.declared.FaultEnd.TheVariants.{Told, Unwritten};
 
 use anyhow::anyhow;
 use kinds::guarded::Guarded;
@@ -92,6 +93,8 @@ enum FaultEnd {
 }
 
 impl From<io::Error> for FaultEnd {
+    ghost from_gives = { λ error end. end ≡ Unwritten error };
+
     fn from(error: io::Error) -> FaultEnd {
         FaultEnd::Unwritten(error)
     }
@@ -116,7 +119,8 @@ fn print_fault(rt: &HostRuntime, fault: &Fault) -> Result<(), FaultEnd>
 
 // Status 1 once a fault is told; `main` prints an error that it returns, so what was not told is.
 fn status_after(end: FaultEnd) -> anyhow::Result<ExitCode>
-    ensures { IfOk result (λ code. exit_status code ≡ 1) }
+    ensures told { IsOk result ↔ (end ≡ Told) }
+    ensures failed { IfOk result (λ code. exit_status code ≡ 1) }
 {
     match end {
         FaultEnd::Told => Ok(ExitCode::FAILURE),
