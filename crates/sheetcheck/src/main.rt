@@ -140,12 +140,13 @@ fn main(rt: HostRuntime) -> anyhow::Result<ExitCode> {
         Kind::Guarded => survey::<Guarded>(text.as_slice()),
     };
     match told {
-        Ok(summary) => print_summary(&rt, &summary)?,
-        Err(fault) => {
-            if let Err(end) = print_fault(&rt, &fault) {
-                return status_after(end);
-            }
+        Ok(summary) => {
+            print_summary(&rt, &summary)?;
+            Ok(ExitCode::SUCCESS)
         }
+        Err(fault) => match print_fault(&rt, &fault) {
+            Err(end) => status_after(end),
+            Ok(()) => Ok(ExitCode::FAILURE),
+        },
     }
-    Ok(ExitCode::SUCCESS)
 }
