@@ -8,7 +8,7 @@ Today's Rattle writes types in upper camel case and all else in snake case; an o
 dashes. A name is renamed where a file of specs/ or proofs/ declares it: as a definition, a lemma, a field,
 a constructor or a member. Names that Rattle makes (of goals, loops and steps) keep their dashes, since an
 answer's type begins with `goal.`. Functions of src/, strings, inputs and outputs stay as they are. Names are
-replaced as whole words in .antt files, in the clauses of .rt files, in must-fail edits, and between backticks
+replaced as whole words in .antt files, in .rt files outside strings, in must-fail edits, and between backticks
 in README.md and docs/. The script prints the names that fall together, and then changes nothing.
 """
 import pathlib
