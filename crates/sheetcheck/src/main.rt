@@ -3,10 +3,10 @@
 // What is read and printed no contract can say.
 #![tactic(auto)]
 
-ghost use Rattle.std.specs.Prelude.{◌≡◌, ◌↔◌, false, is_ok, IsOk, IfOk};
+ghost use Rattle.std.specs.Prelude.{◌≡◌, ◌<◌, ◌↔◌, false, Err, is_ok, IsOk, IfOk};
 ghost use Rattle.std.specs.Process.{exit_status};
 ghost use Rattle.sheetcheck.specs.Words.{Named, words};
-ghost use Rattle.sheetcheck.specs.declared.FaultEnd.TheVariants.{Told, Unwritten};
+ghost use Rattle.sheetcheck.specs.declared.FaultEnd.TheVariants.{Told, NoRoom, Unwritten};
 
 use anyhow::anyhow;
 use kinds::guarded::Guarded;
@@ -103,7 +103,8 @@ impl From<io::Error> for FaultEnd {
 // The E line on standard output, and in words on standard error what is wrong and where.
 // The answer is always an error, which ends the program with status 1.
 fn print_fault(rt: &HostRuntime, fault: &Fault) -> Result<(), FaultEnd>
-    ensures { is_ok result ≡ false }
+    ensures failed { is_ok result ≡ false }
+    ensures no_room { result ≡ Err NoRoom → 999_999 < fault.now.line }
 {
     let mut bytes = [b' '; 15];
     if fault.write(&mut bytes).is_err() {
