@@ -1,8 +1,8 @@
 -- Lemmas on a number that is read digit by digit. Assumes nothing.
-use Rattle.std.proofs.Common.{◌≡◌, ℕ, zero, suc, ◌+◌, ◌-◌, ◌*◌, ◌<◌, ◌≤◌, List, [], ◌∷◌, ◌++◌, length, get_or, take, ℤ, pos, negsuc, Some, None, Err, Option, sym, refl, ap, ◌∙◌, subst, arith, w64, SFits}
+use Rattle.std.proofs.Common.{◌≡◌, ℕ, zero, suc, ◌+◌, ◌-◌, ◌*◌, ◌<◌, ◌≤◌, List, [], ◌∷◌, ◌++◌, length, get_or, take, ℤ, pos, negsuc, Ok, Err, Option, Result, sym, refl, ap, ◌∙◌, subst, arith, w64, SFits}
 use Rattle.std.proofs.ByRecursion.{All-get_or}
-use Rattle.std.proofs.lemmas.List.{take_more, take_all}
-use Rattle.std.specs.Option.{ok_or}
+use Rattle.std.proofs.lemmas.List.{take_more}
+use Rattle.std.specs.Result.{OkIff, result_or}
 use Rattle.std.specs.List.{AllByRecursion}
 use Rattle.std.specs.Int.{IsInRange}
 use Rattle.columns.proofs.Decimals.{decimal_digit, decimal_push, digits_decimal, some_decimal, decimal_not, above_zero, zero_alone, same_from_decimal}
@@ -37,10 +37,6 @@ pub record Sofar (bytes : List ℕ) (i : ℕ) (kept : Option ℕ) : Type 0 where
   pub spelt : Spells (take i bytes) number
   pub held : Kept number kept
 
--- before the first byte
-pub sofar_none : (bytes : List ℕ) → 0 < length bytes → (get_or bytes 0 0 ≡ 48 → length bytes ≤ 1) → Sofar bytes 0 (Some 0)
-sofar_none bytes some alone = record { some = some; alone = alone; number = 0; spelt = refl; held = refl }
-
 -- one byte more
 pub sofar_more : (bytes : List ℕ) (i : ℕ) (kept next : Option ℕ) → i < length bytes → IsInRange 48 57 (get_or bytes i 0) → ((n : ℕ) → Kept n kept → Kept (n * 10 + (get_or bytes i 0 - 48)) next) → Sofar bytes i kept → Sofar bytes (i + 1) next
 sofar_more bytes i kept next within digit step sofar =
@@ -56,16 +52,6 @@ sofar_more bytes i kept next within digit step sofar =
       spelt = subst (λ l. Spells l n) (sym more) (spells_push _ _ d nonzero (omega (arith, digit.1)) sofar.spelt);
       held = step sofar.number sofar.held;
     }
-
--- at the end the bytes are all digits
-spelt_all : (bytes : List ℕ) (n : ℕ) → 0 < length bytes → Spells bytes n → bytes ≡ decimal n
-spelt_all [] n some spelt = absurd (omega arith)
-spelt_all (b ∷ bs) n some spelt = spelt
-
--- after the last byte
-pub sofar_all : (bytes : List ℕ) (kept : Option ℕ) (i : ℕ) → length bytes ≤ i → Sofar bytes i kept → Measures bytes (ok_or kept TooLarge)
-sofar_all bytes (Some m) i end sofar = spelt_all bytes m sofar.some (rw (sofar.held, ← take_all i bytes end) sofar.spelt)
-sofar_all bytes None i end sofar = (sofar.number, spelt_all bytes _ sofar.some (rw (← take_all i bytes end) sofar.spelt), sofar.held)
 
 -- no number has no digits
 pub no_number_empty : (bytes : List ℕ) → length bytes ≡ 0 → Measures bytes (Err NoNumber)
@@ -90,14 +76,15 @@ pub magnitude_plain : (digits : List ℕ) (z : ℤ) → (get_or digits 0 0 ≡ 4
 magnitude_plain digits (pos n) plain same = (n, same)
 magnitude_plain digits (negsuc n) plain same = absurd (plain (ap (λ l. get_or l 0 0) same))
 
+-- a magnitude that fits is the number, and another is too large
+pub names_fitting : {E : Type 0} (n : ℕ) (t : Result ℤ E) → OkIff t (SFits w64 (pos n)) (pos n) → Names (decimal n) (result_or t (Err TooLarge))
+names_fitting n (Ok z) fits = ap numeral (sym fits.1)
+names_fitting n (Err e) large = (pos n, refl, large)
+
 -- there is no minus zero
 pub no_number_minus_zero : (n : ℕ) → n ≡ 0 → Names (45 ∷ decimal n) (Err NoNumber)
 no_number_minus_zero n none z same =
     let found = magnitude_minus (decimal n) z same in omega (arith, same_from_decimal n (suc found.0) found.1)
-
--- where one less does not fit, the number below zero does not
-pub too_large_minus : (n less : ℕ) → n ≡ suc less → (SFits w64 (pos less) → ⊥) → Names (45 ∷ decimal n) (Err TooLarge)
-too_large_minus n less next large = (negsuc less, ap (λ m. 45 ∷ decimal m) next, λ fits. large (record { sfits = fits.sfits }))
 
 -- digits that are no magnitude are none behind a minus
 pub names_minus : (text digits : List ℕ) (e : Unread) → text ≡ 45 ∷ digits → Measures digits (Err e) → Names text (Err e)

@@ -1,8 +1,10 @@
 -- How many digits a number has. Assumes nothing.
-use Rattle.std.proofs.Common.{ℕ, zero, suc, ◌^◌, ◌<◌, ◌≤◌, List, length, ℤ, pos, negsuc, nat_abs, ap, subst, arith, lit<, lit≤, length-append, w64, SFits}
+use Rattle.std.proofs.Common.{◌≡◌, ℕ, zero, suc, ◌+◌, ◌*◌, ⊎_elim, ◌^◌, ◌<◌, ◌≤◌, List, length, ℤ, pos, negsuc, nat_abs, ap, subst, arith, lit<, lit≤, length-append, w64, SFits}
 use native.Mathlib.Nat.{pow-le-pow_right}
 use lib.ListN.{length-map}
 use Rattle.columns.specs.Columns.{decimal, numeral, Shows}
+use Rattle.std.proofs.lemmas.Grind.{pow_more}
+use Rattle.std.proofs.str.Laws.{order}
 use Rattle.std.proofs.lemmas.Int.Digits.{length-digits_of-le, number_digits_of, number_lt, all_below_base_digits_of}
 use Rattle.std.specs.Int.Digits.{digits_of}
 
@@ -20,6 +22,15 @@ lt_length_decimal (suc n) =
     rw length-map
     (subst (λ m. m < 10 ^ length (digits_of 10 (suc n))) (number_digits_of 10 (suc n) (lit≤ tt))
     (number_lt 10 (digits_of 10 (suc n)) (all_below_base_digits_of 10 (suc n) (lit≤ tt))))
+
+-- the digits are one more than the power of ten that the number reaches
+pub length_decimal_power : (n k : ℕ) → 10 ^ k ≤ n → n < 10 * 10 ^ k → length (decimal n) ≡ k + 1
+length_decimal_power n k reached below =
+    let most : length (decimal n) ≤ k + 1 = length_decimal_le (k + 1) n (omega arith) (omega (arith, pow_more 10 k)) in
+    ⊎_elim
+    (λ (least : k < length (decimal n)). omega arith)
+    (λ short. absurd (omega (arith, lt_length_decimal n, pow-le-pow_right {n = 10} (lit< tt) short)))
+    (order k (length (decimal n)))
 
 -- a number is below the power of ten by its numeral
 lt_length_numeral : (z : ℤ) → nat_abs z < 10 ^ length (numeral z)

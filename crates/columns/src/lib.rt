@@ -2,9 +2,12 @@
 // What a column stands for is not known here.
 #![tactic(auto)]
 
-ghost use Rattle.std.specs.Prelude.{◌≡◌, ℕ, ◌+◌, ◌*◌, ◌∷◌, length};
+ghost use Rattle.std.specs.Prelude.{◌≡◌, ℕ, ◌+◌, ◌*◌, ◌∷◌, length, Some, codes};
 ghost use Rattle.columns.specs.Columns.{decimal, Reads, Writes, WritesAt, OneNumber, OneColumn, ReadsBack, WritesBack};
 ghost use Rattle.columns.specs.Parts.{Unpadded, Measures, Names, Kept, minus, Puts};
+
+use std::error::Error;
+use std::fmt;
 
 // Why a column gives no number.
 #[derive(Clone, Copy, Debug, PartialEq, Eq)]
@@ -72,22 +75,16 @@ fn with_digit(front: Option<u64>, digit: u8) -> Option<u64>
 fn from_zero(magnitude: u64) -> Result<i64, Unread>
     ensures { Names (decimal magnitude) result }
 {
-    match i64::try_from(magnitude) {
-        Ok(number) => Ok(number),
-        Err(_) => Err(Unread::TooLarge),
-    }
+    i64::try_from(magnitude).or(Err(Unread::TooLarge))
 }
 
-// One less is turned, since the lowest number has no counterpart above zero.
+// The lowest number has no counterpart above zero, so the magnitude is taken from zero.
 fn below_zero(magnitude: u64) -> Result<i64, Unread>
     ensures { Names (45 ∷ decimal magnitude) result }
 {
     match magnitude {
         0 => Err(Unread::NoNumber),
-        _ => match i64::try_from(magnitude - 1) {
-            Ok(less) => Ok(-1 - less),
-            Err(_) => Err(Unread::TooLarge),
-        },
+        _ => 0i64.checked_sub_unsigned(magnitude).ok_or(Unread::TooLarge),
     }
 }
 
@@ -97,11 +94,13 @@ pub fn write(number: i64, column: &mut [u8]) -> Result<(), NoRoom>
     ensures reads_back { ReadsBack number column.new result }
 {
     let magnitude = number.unsigned_abs();
-    let Some(start) = column.len().checked_sub(digit_count(magnitude)) else {
-        return Err(NoRoom);
-    };
-    put_sign(number < 0, &mut column[..start])?;
-    put_digits(magnitude, &mut column[start..]);
+    let start = column
+        .len()
+        .checked_sub(digit_count(magnitude))
+        .ok_or(NoRoom)?;
+    let (front, digits) = column.split_at_mut(start);
+    put_sign(number < 0, front)?;
+    put_digits(magnitude, digits);
     Ok(())
 }
 
@@ -118,13 +117,9 @@ pub fn write_at(number: i64, text: &mut [u8], start: usize, width: usize) -> Res
 fn digit_count(number: u64) -> usize
     ensures { result ≡ length (decimal number) }
 {
-    let mut count = 1;
-    let mut rest = number;
-    while rest >= 10 {
-        rest /= 10;
-        count += 1;
-    }
-    count
+    number
+        .checked_ilog10()
+        .map_or(1, |power| power as usize + 1)
 }
 
 fn put_sign(negative: bool, front: &mut [u8]) -> Result<(), NoRoom>
@@ -140,6 +135,7 @@ fn put_sign(negative: bool, front: &mut [u8]) -> Result<(), NoRoom>
     Ok(())
 }
 
+// By place: after a loop over a reversed `iter_mut` nothing is known of what it wrote.
 fn put_digits(number: u64, digits: &mut [u8])
     requires { length digits.old ≡ length (decimal number) }
     ensures { digits.new ≡ decimal number }
@@ -150,3 +146,13 @@ fn put_digits(number: u64, digits: &mut [u8])
         rest /= 10;
     }
 }
+
+impl fmt::Display for NoRoom {
+    ghost output = { λ _. Some (codes "the column is too short for the number") };
+
+    fn fmt<W: fmt::Write>(&self, f: &mut fmt::Formatter<W>) -> fmt::Result {
+        f.write_str("the column is too short for the number")
+    }
+}
+
+impl Error for NoRoom {}

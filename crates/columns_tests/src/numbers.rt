@@ -1,8 +1,15 @@
 // A number in a column, read and written.
 use columns::{NoRoom, Unread};
+use std::alloc::Global;
 use std::process::Abort;
+use std::test::Fail;
 
-fn reads_a_number(rt: &impl Abort) {
+fn check_read(rt: &impl Abort, column: &str, answer: Result<i64, Unread>) {
+    assert_eq!(rt; columns::read(column.as_bytes()), answer, "{column:?}");
+}
+
+#[test]
+fn reads_a_number(rt: HostRuntime) {
     let cases = [
         ("0", 0),
         ("    0", 0),
@@ -20,11 +27,12 @@ fn reads_a_number(rt: &impl Abort) {
         ("     -9223372036854775808", i64::MIN),
     ];
     for (column, number) in cases {
-        assert_eq!(rt; columns::read(column.as_bytes()), Ok(number), "{}", column);
+        check_read(&rt, column, Ok(number));
     }
 }
 
-fn reads_no_number(rt: &impl Abort) {
+#[test]
+fn refuses_blanks_signs_and_extra_zeros(rt: HostRuntime) {
     let cases = [
         "",
         " ",
@@ -39,6 +47,16 @@ fn reads_no_number(rt: &impl Abort) {
         "01",
         "-01",
         "000000000000000000000000000000",
+        "012345678901234567890123456789",
+    ];
+    for column in cases {
+        check_read(&rt, column, Err(Unread::NoNumber));
+    }
+}
+
+#[test]
+fn refuses_bytes_out_of_place(rt: HostRuntime) {
+    let cases = [
         "+1",
         "1-",
         "- 1",
@@ -63,19 +81,14 @@ fn reads_no_number(rt: &impl Abort) {
         "-123456789012345678901234567890a",
         "123456789012345678901234567890 ",
         "99999999999999999999-",
-        "012345678901234567890123456789",
     ];
     for column in cases {
-        assert_eq!(rt;
-            columns::read(column.as_bytes()),
-            Err(Unread::NoNumber),
-            "{}",
-            column
-        );
+        check_read(&rt, column, Err(Unread::NoNumber));
     }
 }
 
-fn reads_a_number_that_does_not_fit(rt: &impl Abort) {
+#[test]
+fn reads_a_number_that_does_not_fit(rt: HostRuntime) {
     let cases = [
         "9223372036854775808",
         "-9223372036854775809",
@@ -91,41 +104,41 @@ fn reads_a_number_that_does_not_fit(rt: &impl Abort) {
         "  100000000000000000000000000000",
     ];
     for column in cases {
-        assert_eq!(rt;
-            columns::read(column.as_bytes()),
-            Err(Unread::TooLarge),
-            "{}",
-            column
-        );
+        check_read(&rt, column, Err(Unread::TooLarge));
     }
-}
-
-fn is_all(bytes: &[u8], byte: u8) -> bool {
-    for b in bytes {
-        if *b != byte {
-            return false;
-        }
-    }
-    true
 }
 
 // The column is left as it was where the numeral has no room, else it is spaces and then the numeral.
-fn check_write(rt: &impl Abort, number: i64, numeral: &str, column: &mut [u8]) {
-    column.fill(b'x');
-    let written = columns::write(number, column);
-    let Some(spaces) = column.len().checked_sub(numeral.len()) else {
-        assert!(rt; is_all(column, b'x'), "{}", numeral);
-        assert_eq!(rt; written, Err(NoRoom), "{}", numeral);
-        return;
-    };
-    assert_eq!(rt; written, Ok(()), "{}", numeral);
-    assert_eq!(rt; columns::read(column), Ok(number), "{}", numeral);
-    let (front, back) = column.split_at(spaces);
-    assert!(rt; is_all(front, b' '), "{}", numeral);
-    assert_eq!(rt; back, numeral.as_bytes(), "{}", numeral);
+fn check_write(
+    rt: &impl Abort,
+    heap: Global,
+    number: i64,
+    numeral: &str,
+    length: usize,
+) -> Result<(), Fail> {
+    let mut column = vec![in heap; b'x'; length]?;
+    let written = columns::write(number, &mut column);
+    if length < numeral.len() {
+        assert_eq!(rt; written, Err(NoRoom), "{numeral} in {length}");
+        assert!(rt;
+            column.iter().all(|byte| *byte == b'x'),
+            "{numeral} in {length}"
+        );
+    } else {
+        assert_eq!(rt; written, Ok(()), "{numeral} in {length}");
+        assert_eq!(rt; columns::read(&column), Ok(number), "{numeral} in {length}");
+        let padded = format!(in heap; "{numeral:>length$}")?;
+        assert_eq!(rt;
+            column.as_slice(),
+            padded.as_bytes(),
+            "{numeral} in {length}"
+        );
+    }
+    Ok(())
 }
 
-fn writes_into_columns_of_each_length(rt: &impl Abort) {
+#[test]
+fn writes_into_columns_of_each_length(rt: HostRuntime) -> Result<(), Fail> {
     let cases = [
         (0, "0"),
         (9, "9"),
@@ -142,13 +155,14 @@ fn writes_into_columns_of_each_length(rt: &impl Abort) {
     ];
     for (number, numeral) in cases {
         for length in 0..26 {
-            let mut column = [0; 25];
-            check_write(rt, number, numeral, &mut column[..length]);
+            check_write(&rt, rt.alloc(), number, numeral, length)?;
         }
     }
+    Ok(())
 }
 
-fn writes_into_a_part_of_a_text(rt: &impl Abort) {
+#[test]
+fn writes_into_a_part_of_a_text(rt: HostRuntime) {
     let cases = [
         (12, 2, 3, Ok(()), "xx 12xxx"),
         (-12, 2, 3, Ok(()), "xx-12xxx"),
@@ -169,18 +183,12 @@ fn writes_into_a_part_of_a_text(rt: &impl Abort) {
         assert_eq!(rt;
             columns::write_at(number, &mut text, start, width),
             answer,
-            "{}",
-            after
+            "{number} at {start} in {width}"
         );
-        assert_eq!(rt; &text[..], after.as_bytes());
+        assert_eq!(rt;
+            text.as_slice(),
+            after.as_bytes(),
+            "{number} at {start} in {width}"
+        );
     }
-}
-
-#[test]
-fn numbers_in_columns(rt: HostRuntime) {
-    reads_a_number(&rt);
-    reads_no_number(&rt);
-    reads_a_number_that_does_not_fit(&rt);
-    writes_into_columns_of_each_length(&rt);
-    writes_into_a_part_of_a_text(&rt);
 }

@@ -1,5 +1,5 @@
 -- Chains put together, and chains over a list with one record more. Assumes nothing.
-use Rattle.std.proofs.Common.{◌≡◌, ℕ, zero, suc, ◌⊎◌, List, [], ◌∷◌, ◌++◌, length, Some, sym, refl, ap, ◌∙◌, inl, inr}
+use Rattle.std.proofs.Common.{◌≡◌, ℕ, zero, suc, ◌⊎◌, List, [], ◌∷◌, ◌++◌, length, Some, sym, refl, ap, ◌∙◌, subst, inl, inr}
 use Rattle.std.proofs.ByRecursion.{All-append, All-weaker}
 use Rattle.std.specs.Option.{option_map}
 use Rattle.kinds.specs.Rows.{Row, plus, opposite}
@@ -33,6 +33,13 @@ module _ (k : ℕ) where
   pub leg_of_high : (r : Record k) (h : Row k) → r.high ≡ Some h → leg_of k r High ≡ Some (high_way r h)
   leg_of_high r h e = ap (option_map (high_way r)) e
 
+  -- what holds of the legs of both ends holds of each leg that an end gives
+  pub each_leg :
+      (P : Leg k → Type 0) (r : Record k) → ((l : Row k) → r.low ≡ Some l → P (low_way r l)) → ((h : Row k) → r.high ≡ Some h → P (high_way r h))
+      → (e : End) (g : Leg k) → leg_of k r e ≡ Some g → P g
+  each_leg P r low high Low g e = let (l, at-l, at_g) = low_leg r g e in subst P at_g (low l at-l)
+  each_leg P r low high High g e = let (h, at-h, at_g) = high_leg r g e in subst P at_g (high h at-h)
+
   -- steps joined to steps
   leads_append :
       (u : ℕ) (ss : List (Step k)) (v : ℕ) (ts : List (Step k)) (w : ℕ) → Leads k u ss v → Leads k v ts w → Leads k u (ss ++ ts) w
@@ -42,9 +49,7 @@ module _ (k : ℕ) where
   -- lengths of joined steps add up
   pub length_of_append : (ss ts : List (Step k)) → length_of k (ss ++ ts) ≡ plus k (length_of k ss) (length_of k ts)
   length_of_append [] ts = sym (zeros_plus k (length_of k ts))
-  length_of_append (s ∷ ss) ts =
-      ap (plus k s.leg.length) (length_of_append ss ts)
-      ∙ sym (plus_assoc k s.leg.length (length_of k ss) (length_of k ts))
+  length_of_append (s ∷ ss) ts = cc (length_of_append ss ts, plus_assoc k s.leg.length (length_of k ss) (length_of k ts))
 
   -- the chain of no steps
   pub chain_none : (rs : List (Record k)) (u : ℕ) → Chain k rs u [] u

@@ -1,5 +1,5 @@
 -- Tests that compute, for the worked examples: fit records, cells that agree, final times. Assumes nothing.
-use Rattle.std.proofs.Common.{◌≡◌, ℕ, zero, suc, Bool, true, false, not, ◌&&◌, ◌||◌, T, eqb, leb, List, [], ◌∷◌, ◌++◌, is_some, Some, None, Option, sym, refl, ap, ◌∙◌, subst, inl, inr, arith}
+use Rattle.std.proofs.Common.{◌≡◌, ℕ, zero, suc, Bool, true, false, not, ◌&&◌, ◌||◌, T, eqb, leb, List, [], ◌∷◌, ◌++◌, is_some, ⊎_elim, Some, None, Option, sym, refl, ap, ◌∙◌, subst, inl, inr, arith}
 use Rattle.std.specs.Ordering.{is_le}
 use Rattle.std.proofs.ByRecursion.{All-push}
 use Rattle.std.proofs.lemmas.Bool.{cases_eq, eq-eqb}
@@ -9,7 +9,6 @@ use Rattle.graph.specs.Schedules.{Pin, Record, NotAbove, Fit}
 use Rattle.graph.specs.Tables.{Cells, Table, LeastLength, range_low, range_high, updated, Refused, FinalTime}
 use Rattle.graph.specs.Examples.{Sheet}
 use Rattle.graph.proofs.Rows.{le_antisym}
-use Rattle.graph.proofs.Lengths.{Decided}
 use Rattle.graph.proofs.Tables.{the_update_is_the_table}
 
 -- the parts of two tests in one
@@ -25,11 +24,9 @@ every f (suc n) = every f n && f (suc n)
 -- a test at each pin passes at one
 every_at : (f : ℕ → Bool) (n : ℕ) → T (every f n) → (u : ℕ) → Pin n u → T (f u)
 every_at f zero h u p = absurd (omega arith)
-every_at f (suc n) h u p = by (cases_eq u (suc n)) (both (every f n) (f (suc n)) h) (every_at f n)
-  where
-    by : Decided (u ≡ suc n) → T (every f n) × T (f (suc n)) → (T (every f n) → (v : ℕ) → Pin n v → T (f v)) → T (f u)
-    by (inl e) g rest = rw e g.1
-    by (inr e) g rest = rest g.0 u (omega arith)
+every_at f (suc n) h u p =
+    let g = both (every f n) (f (suc n)) h in
+    ⊎_elim (λ e. rw e g.1) (λ e. every_at f n g.0 u (omega arith)) (cases_eq u (suc n))
 
 -- whether the one is not above the other
 abbrev not_above : (k : ℕ) → Option (Row k) → Option (Row k) → Bool
@@ -56,8 +53,7 @@ same_cell_from k None None h = refl
 same_cell_from k None (Some y) h = absurd h
 same_cell_from k (Some x) None h = absurd h
 same_cell_from k (Some x) (Some y) h =
-    let g = both (is_le (order k x y)) (is_le (order k y x)) h in
-    ap Some (le_antisym k x y g.0 g.1)
+    let g = both _ _ h in ap Some (le_antisym k x y g.0 g.1)
 
 -- whether all cells between the pins are the same
 abbrev same_cells : (k n : ℕ) → Cells k → Cells k → Bool
@@ -75,7 +71,7 @@ is_pin n u = leb 1 u && leb u n
 
 -- what that test says
 is_pin_from : (n u : ℕ) → T (is_pin n u) → Pin n u
-is_pin_from n u h = let g = both (leb 1 u) (leb u n) h in (grind (arith, nat_tests), grind (arith, nat_tests))
+is_pin_from n u h = (grind (arith, nat_tests), grind (arith, nat_tests))
 
 -- whether a record is fit, by its pins and by its ends
 abbrev fit_pins : {k : ℕ} → ℕ → Record k → Bool
@@ -109,17 +105,8 @@ is_taken k d r =
 
 -- what that test says
 pub taken_from : (k : ℕ) (d : Cells k) (r : Record k) → T (is_taken k d r) → Refused k d r → ⊥
-taken_from k d r h = by (both (not_above k r.low high) (not_above k low r.high) h)
-  where
-    low : Option (Row k)
-    low = range_low k d r.first r.second
-
-    high : Option (Row k)
-    high = range_high k d r.first r.second
-
-    by : T (not_above k r.low high) × T (not_above k low r.high) → Refused k d r → ⊥
-    by g (inl x) = x (not_above_from k r.low high g.0)
-    by g (inr x) = x (not_above_from k low r.high g.1)
+taken_from k d r h (inl x) = x (not_above_from k r.low (range_high k d r.first r.second) (both _ _ h).0)
+taken_from k d r h (inr x) = x (not_above_from k (range_low k d r.first r.second) r.high (both _ _ h).1)
 
 -- cells that agree with a table between the pins are one
 table_same :
@@ -151,8 +138,8 @@ is_final k n d v t u = is_pin n u && (same_cell k (d u v) (Some t) && every (λ 
 -- what that test says
 pub final_from : (k n : ℕ) (d : Cells k) (v : ℕ) (t : Row k) (u : ℕ) → T (is_final k n d v t u) → FinalTime k n d v t
 final_from k n d v t u h =
-    let g = both (is_pin n u) (same_cell k (d u v) (Some t) && every (λ x. not_above k (Some t) (d x v)) n) h in
-    let rest = both (same_cell k (d u v) (Some t)) (every (λ x. not_above k (Some t) (d x v)) n) g.1 in
+    let g = both _ _ h in
+    let rest = both _ _ g.1 in
     record {
       reached = (u, is_pin_from n u g.0, same_cell_from k (d u v) (Some t) rest.0);
       least = λ x p. not_above_from k (Some t) (d x v) (every_at (λ y. not_above k (Some t) (d y v)) n rest.1 x p);

@@ -1,16 +1,16 @@
 -- Final times: each pin has one, together they meet the list, and none is above zero. Assumes nothing.
-use Rattle.std.proofs.Common.{◌≡◌, ℕ, zero, suc, ◌+◌, ◌<◌, ◌≤◌, ◌⊎◌, List, [], ◌∷◌, Some, None, Option, unwrap_or, sym, refl, ap, subst, inl, inr, arith}
+use Rattle.std.proofs.Common.{◌≡◌, ℕ, zero, suc, ◌+◌, ◌<◌, ◌≤◌, ⊎_elim, List, [], ◌∷◌, Some, None, Option, unwrap_or, sym, refl, ap, subst, arith}
 use Rattle.std.specs.List.{ContainsAt, AllByRecursion}
 use Rattle.std.proofs.ByRecursion.{all_has_itself, All-weaker}
 use Rattle.std.proofs.lemmas.Bool.{cases_eq}
 use Rattle.kinds.specs.Rows.{Row, zeros, plus, Le}
 use Rattle.graph.specs.Schedules.{Pin, Schedule, Record, NotAbove, Meets, MeetsAll, Feasible, Fit}
-use Rattle.graph.specs.Legs.{Leg, End, Low, High, leg_of, Keeps}
+use Rattle.graph.specs.Legs.{Leg, End, leg_of, Keeps}
 use Rattle.graph.specs.Tables.{Cells, Table, lesser, FinalTime}
 use Rattle.graph.specs.Laws.{OneFinalTime, FinalTimesMeetTheList}
 use Rattle.graph.proofs.Rows.{le_antisym, plus_zeros, minus_le_of_plus}
 use Rattle.graph.proofs.Lengths.{none_some, AtMost, at_most_some, at_most_row, le_at_most, lesser_cases, at_most_lesser_left, at_most_lesser_right}
-use Rattle.graph.proofs.Chains.{low_leg, high_leg}
+use Rattle.graph.proofs.Chains.{each_leg}
 use Rattle.graph.proofs.Least.{Reaches, LeastOn, reaches_append, least_reached, least_bound, least_zero}
 use Rattle.graph.proofs.Unique.{record_leg_at}
 use Rattle.graph.proofs.Keeping.{meets_from_keeps}
@@ -38,25 +38,17 @@ module _ (k : ℕ) where
   lowest_reached :
       (c : ℕ → Option (Row k)) (lo m : ℕ) (w : Row k) → lowest c lo m ≡ Some w → (u : ℕ) × From lo m u × (c u ≡ Some w)
   lowest_reached c lo zero w e = absurd (none_some w e)
-  lowest_reached c lo (suc m) w e = by (lesser_cases k (lowest c lo m) (c (lo + m)) w e) (lowest_reached c lo m w)
-    where
-      by :
-          (lowest c lo m ≡ Some w) ⊎ (c (lo + m) ≡ Some w) → (lowest c lo m ≡ Some w → (u : ℕ) × From lo m u × (c u ≡ Some w))
-          → (u : ℕ) × From lo (suc m) u × (c u ≡ Some w)
-      by (inl h) f = let (u, p, g) = f h in (u, (p.0, omega arith), g)
-      by (inr h) f = (lo + m, (omega arith, omega arith), h)
+  lowest_reached c lo (suc m) w e =
+      ⊎_elim (λ h. let (u, p, g) = lowest_reached c lo m w h in (u, (p.0, omega arith), g))
+      (λ h. (lo + m, (omega arith, omega arith), h)) (lesser_cases k (lowest c lo m) (c (lo + m)) w e)
 
   -- it is at most each of them
   lowest_bound :
       (c : ℕ → Option (Row k)) (lo m u : ℕ) (w : Row k) → From lo m u → AtMost k (c u) w → AtMost k (lowest c lo m) w
   lowest_bound c lo zero u w p h = absurd (omega arith)
-  lowest_bound c lo (suc m) u w p h = by (cases_eq u (lo + m)) (lowest_bound c lo m u w)
-    where
-      by :
-          (u ≡ lo + m) ⊎ (u ≡ lo + m → ⊥) → (From lo m u → AtMost k (c u) w → AtMost k (lowest c lo m) w)
-          → AtMost k (lowest c lo (suc m)) w
-      by (inl e) f = at_most_lesser_right k (lowest c lo m) (c (lo + m)) w (rw (← e) h)
-      by (inr e) f = at_most_lesser_left k (lowest c lo m) (c (lo + m)) w (f (p.0, omega arith) h)
+  lowest_bound c lo (suc m) u w p h =
+      ⊎_elim (λ e. at_most_lesser_right k (lowest c lo m) (c (lo + m)) w (rw (← e) h))
+      (λ e. at_most_lesser_left k (lowest c lo m) (c (lo + m)) w (lowest_bound c lo m u w (p.0, omega arith) h)) (cases_eq u (lo + m))
 
   -- t is a cell of the column, and above none
   abbrev LeastIn : (P : ℕ → Type 0) → (ℕ → Option (Row k)) → Row k → Type 0
@@ -97,15 +89,10 @@ module _ (k : ℕ) where
 
     -- the least of each column, as times, meet each record between the pins
     least_times_meet : (r : Record k) → ContainsAt rs r → P r.first → P r.second → Meets k t r
-    least_times_meet r has pi pj = meets_from_keeps k t r by
-      where
-        by : (e : End) (g : Leg k) → leg_of k r e ≡ Some g → Keeps k t g
-        by Low g h =
-            let (l, at-l, at_g) = low_leg k r g h in
-            leg_kept r has Low g (subst (λ (x : Leg k). P x.from) at_g pi) (subst (λ (x : Leg k). P x.to) at_g pj) h
-        by High g h =
-            let (l, at-l, at_g) = high_leg k r g h in
-            leg_kept r has High g (subst (λ (x : Leg k). P x.from) at_g pj) (subst (λ (x : Leg k). P x.to) at_g pi) h
+    least_times_meet r has pi pj =
+        meets_from_keeps k t r (λ e g h.
+        let ends : P g.from × P g.to = each_leg k (λ x. P x.from × P x.to) r (λ l at-l. (pi, pj)) (λ l at-l. (pj, pi)) e g h in
+        leg_kept r has e g ends.0 ends.1 h)
 
   -- the schedule of the least of each column
   abbrev pub earliest : Cells k → ℕ → ℕ → Schedule k

@@ -1,16 +1,15 @@
 -- Schedules that meet records keep their legs, and with them each chain. Assumes nothing.
-use Rattle.std.proofs.Common.{◌≡◌, ℕ, List, [], ◌∷◌, Some, None, Option, refl, subst}
+use Rattle.std.proofs.Common.{◌≡◌, ℕ, List, [], ◌∷◌, Some, None, Option, refl}
 use Rattle.std.specs.List.{AllByRecursion}
-use Rattle.std.proofs.ByRecursion.{all-has}
 use Rattle.kinds.specs.Rows.{Row, zeros, plus, opposite, minus, Le}
 use Rattle.graph.specs.Schedules.{Schedule, skew, Record, NotAbove, Meets, MeetsAll}
 use Rattle.graph.specs.Legs.{Leg, End, Low, High, leg_of, Keeps, Step, StepOf, Leads, length_of}
 use Rattle.graph.specs.Laws.{MeetingIsKeepingTheLegs}
 use Rattle.graph.proofs.Rows.{le_refl, le_trans, le_plus, le_plus_cancel, le_opposite, opposite_opposite, opposite_minus, plus_zeros}
 use Rattle.graph.proofs.Rows.{plus_assoc, le_plus_of_minus}
-use Rattle.graph.proofs.Chains.{low_leg, high_leg, low_way, high_way, leg_of_low, leg_of_high}
+use Rattle.graph.proofs.Chains.{each_leg, low_way, high_way, leg_of_low, leg_of_high}
 use Rattle.graph.proofs.Least.{Reaches}
-use Rattle.graph.proofs.Unique.{leg_at_record}
+use Rattle.graph.proofs.Unique.{each_step}
 
 module _ (k : ℕ) where
   -- a bound on a difference from below is one on the opposite difference from above
@@ -23,14 +22,8 @@ module _ (k : ℕ) where
 
   -- a schedule that meets a record keeps its legs
   keeps_from_meets : (t : Schedule k) (r : Record k) → Meets k t r → (e : End) (g : Leg k) → leg_of k r e ≡ Some g → Keeps k t g
-  keeps_from_meets t r m Low g h =
-      let (l, at-l, at_g) = low_leg k r g h in
-      let n : Le k l (skew k t r.first r.second) = rw at-l at m.0 in
-      subst (Keeps k t) at_g (low_turned (t r.first) (t r.second) l n)
-  keeps_from_meets t r m High g h =
-      let (l, at-l, at_g) = high_leg k r g h in
-      let n : Le k (skew k t r.first r.second) l = rw at-l at m.1 in
-      subst (Keeps k t) at_g n
+  keeps_from_meets t r m =
+      each_leg k (Keeps k t) r (λ l e. low_turned (t r.first) (t r.second) l (rw e at m.0)) (λ h e. rw e at m.1)
 
   -- a schedule that keeps the legs of a record meets it
   pub meets_from_keeps : (t : Schedule k) (r : Record k) → ((e : End) (g : Leg k) → leg_of k r e ≡ Some g → Keeps k t g) → Meets k t r
@@ -51,9 +44,8 @@ module _ (k : ℕ) where
   chain_kept t rs m [] u v taken joined = rw (plus_zeros k (t u), joined) (le_refl k (t v))
   chain_kept t rs m (s ∷ ss) u v taken joined =
       let g : Leg k = s.leg in
-      let (r, has, e) = leg_at_record k rs s.number s.end g taken.0 in
       let kept : Le k (t g.to) (plus k (t g.from) g.length) =
-      le_plus_of_minus k (t g.to) (t g.from) g.length (keeps_from_meets t r (all-has (Meets k t) rs r m has) s.end g e) in
+      le_plus_of_minus k (t g.to) (t g.from) g.length (each_step k (Meets k t) (Keeps k t) (keeps_from_meets t) rs m s taken.0) in
       let rest : Le k (t v) (plus k (t g.to) (length_of k ss)) = chain_kept t rs m ss g.to v taken.1 joined.1 in
       let sum : Le k (plus k (t g.to) (length_of k ss)) (plus k (plus k (t g.from) g.length) (length_of k ss)) =
       le_plus k (t g.to) (plus k (t g.from) g.length) (length_of k ss) (length_of k ss) kept (le_refl k (length_of k ss)) in

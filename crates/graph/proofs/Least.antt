@@ -1,11 +1,11 @@
 -- Least lengths: how they are read and made, and zero from a pin to itself. Assumes nothing.
-use Rattle.std.proofs.Common.{◌≡◌, ℕ, List, [], ◌∷◌, ◌++◌, Some, None, Option, refl, ap, ◌∙◌}
+use Rattle.std.proofs.Common.{◌≡◌, ℕ, List, [], ◌∷◌, ◌++◌, Some, None, Option, refl, ap}
 use Rattle.kinds.specs.Rows.{Row, zeros, plus, Le}
 use Rattle.graph.specs.Schedules.{Record}
 use Rattle.graph.specs.Legs.{Leg, End, leg_of, Step, Chain, length_of}
 use Rattle.graph.specs.Tables.{Cells, LeastLength}
 use Rattle.graph.proofs.Rows.{le_antisym, le_plus_cancel, plus_zeros}
-use Rattle.graph.proofs.Lengths.{none_some, AtMost, at_most_row}
+use Rattle.graph.proofs.Lengths.{none_some, AtMost}
 use Rattle.graph.proofs.Chains.{chain_none, chain_append, length_of_append, chain_push, chain_last, last_step}
 
 module _ (k : ℕ) where
@@ -55,14 +55,7 @@ module _ (k : ℕ) where
 
   -- from a pin to itself it is zero: twice around is not shorter than once
   pub least_zero : (rs : List (Record k)) (u : ℕ) (c : Option (Row k)) → LeastLength k rs u u c → c ≡ Some (zeros k)
-  least_zero rs u c h = by (at_most_row k c (zeros k) (least_bound rs u u c (zeros k) h ([], chain_none k rs u, refl)))
-    where
-      not_below : (x : Row k) → c ≡ Some x → Le k (zeros k) x
-      not_below x e =
-          let once : Reaches rs u u x = least_reached rs u u c x h e in
-          let twice : AtMost k c (plus k x x) = least_bound rs u u c (plus k x x) h (reaches_append rs u u u x x once once) in
-          let l : Le k x (plus k x x) = rw e at twice in
-          le_plus_cancel k x (zeros k) x (rw (plus_zeros k x) l)
-
-      by : (x : Row k) × (c ≡ Some x) × Le k x (zeros k) → c ≡ Some (zeros k)
-      by (x, e, l) = e ∙ ap Some (le_antisym k x (zeros k) l (not_below x e))
+  least_zero rs u None h = absurd (h [] (chain_none k rs u))
+  least_zero rs u (Some x) h =
+      let twice : Le k x (plus k x x) = least_bound rs u u (Some x) (plus k x x) h (reaches_append rs u u u x x h.0 h.0) in
+      ap Some (le_antisym k x (zeros k) (h.1 [] (chain_none k rs u)) (le_plus_cancel k x (zeros k) x (rw (plus_zeros k x) twice)))

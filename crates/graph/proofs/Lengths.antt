@@ -1,19 +1,18 @@
 -- Optional rows as lengths: what their lesser, their sum and the cut come to. Assumes nothing.
-use Rattle.std.proofs.Common.{◌≡◌, ℕ, Bool, true, false, cond, ◌⊎◌, Some, None, Option, refl, ap, inl, inr, arith}
+use Rattle.std.proofs.Common.{◌≡◌, ℕ, cond, ◌⊎◌, ⊎_elim, Some, None, Option, refl, ap, inl, inr}
 use Rattle.std.specs.Option.{option_map}
 use Rattle.std.specs.Ordering.{is_le}
+use Rattle.std.proofs.lemmas.Bool.{cond_both}
 use Rattle.kinds.specs.Rows.{Row, zeros, plus, opposite, order, Le}
 use Rattle.graph.specs.Schedules.{NotAbove}
 use Rattle.graph.specs.Tables.{lesser, greater, added, negated}
 use Rattle.graph.proofs.Rows.{le_refl, le_trans, le_total, le_or_not, le_plus, le_opposite, opposite_opposite, plus_comm, gap_of_le}
+-- an absent value is not some value
+pub use Rattle.std.proofs.lemmas.Option.{none-some as none_some}
 
 -- it is known which: A, or not A
 abbrev pub Decided : Type 0 → Type 0
 Decided A = A ⊎ (A → ⊥)
-
--- an absent value is not some value
-pub none_some : {A : Type 0} (x : A) → None ≡ Some x → ⊥
-none_some x e = let z : ◌≡◌ {A = ℕ} 0 1 = cc in omega arith
 
 -- what stands under a map that is there
 pub mapped_some : {A B : Type 0} (f : A → B) (c : Option A) (y : B) → option_map f c ≡ Some y → (x : A) × (c ≡ Some x) × (f x ≡ y)
@@ -45,25 +44,18 @@ module _ (k : ℕ) where
   le_at_most t None w h l = absurd l
   le_at_most t (Some x) w h l = le_trans k t x w h l
 
-  -- one of two rows is one of them
-  cond_cases : (x y w : Row k) (t : Bool) → Some (cond t x y) ≡ Some w → (Some x ≡ Some w) ⊎ (Some y ≡ Some w)
-  cond_cases x y w true e = inl e
-  cond_cases x y w false e = inr e
-
   -- the lesser of two lengths is one of them
   pub lesser_cases : (a b : Option (Row k)) (w : Row k) → lesser k a b ≡ Some w → (a ≡ Some w) ⊎ (b ≡ Some w)
   lesser_cases None b w e = inr e
   lesser_cases (Some x) None w e = inl e
-  lesser_cases (Some x) (Some y) w e = cond_cases x y w (is_le (order k x y)) e
+  lesser_cases (Some x) (Some y) w e =
+      cond_both (is_le (order k x y)) x y (λ z. Some z ≡ Some w → (Some x ≡ Some w) ⊎ (Some y ≡ Some w)) (λ t. inl) (λ t. inr) e
 
   -- the lesser of two rows is not above either
   lesser_row : (x y : Row k) → Le k (cond (is_le (order k x y)) x y) x × Le k (cond (is_le (order k x y)) x y) y
-  lesser_row x y = by (is_le (order k x y)) refl (le_total k x y)
-    where
-      by : (t : Bool) → is_le (order k x y) ≡ t → Le k x y ⊎ Le k y x → Le k (cond t x y) x × Le k (cond t x y) y
-      by true e h = (le_refl k x, rw e tt)
-      by false e (inl h) = absurd (rw e at h)
-      by false e (inr h) = (h, le_refl k y)
+  lesser_row x y =
+      cond_both (is_le (order k x y)) x y (λ z. Le k z x × Le k z y) (λ e. (le_refl k x, rw e tt))
+      (λ e. (⊎_elim (λ h. absurd (rw e at h)) (λ h. h) (le_total k x y), le_refl k y))
 
   -- the lesser is at most what the first length is at most
   pub at_most_lesser_left : (a b : Option (Row k)) (w : Row k) → AtMost k a w → AtMost k (lesser k a b) w
@@ -111,19 +103,15 @@ module _ (k : ℕ) where
       (a b : Option (Row k)) (w : Row k) → negated k (greater k a b) ≡ Some w → (negated k a ≡ Some w) ⊎ (negated k b ≡ Some w)
   negated_cases None b w e = inr e
   negated_cases (Some x) None w e = inl e
-  negated_cases (Some x) (Some y) w e = by (is_le (order k x y)) e
-    where
-      by : (t : Bool) → Some (opposite k (cond t y x)) ≡ Some w → (Some (opposite k x) ≡ Some w) ⊎ (Some (opposite k y) ≡ Some w)
-      by true e = inr e
-      by false e = inl e
+  negated_cases (Some x) (Some y) w e =
+      cond_both (is_le (order k x y)) y x
+      (λ z. Some (opposite k z) ≡ Some w → (Some (opposite k x) ≡ Some w) ⊎ (Some (opposite k y) ≡ Some w)) (λ t. inr) (λ t. inl) e
 
   -- the opposite of the greater of two rows is not above the opposite of the first
   negated_row : (x y : Row k) → Le k (opposite k (cond (is_le (order k x y)) y x)) (opposite k x)
-  negated_row x y = by (is_le (order k x y)) refl
-    where
-      by : (t : Bool) → is_le (order k x y) ≡ t → Le k (opposite k (cond t y x)) (opposite k x)
-      by true e = le_opposite k x y (rw e tt)
-      by false e = le_refl k (opposite k x)
+  negated_row x y =
+      cond_both (is_le (order k x y)) y x (λ z. Le k (opposite k z) (opposite k x))
+      (λ e. le_opposite k x y (rw e tt)) (λ e. le_refl k (opposite k x))
 
   -- the same of lengths
   pub at_most_negated : (a b : Option (Row k)) (w : Row k) → negated k a ≡ Some w → AtMost k (negated k (greater k a b)) w

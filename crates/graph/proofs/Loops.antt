@@ -1,12 +1,12 @@
 -- A chain that enters a pin twice has a loop that can be cut out. Assumes nothing.
-use Rattle.std.proofs.Common.{◌≡◌, ℕ, ◌+◌, ◌<◌, ◌⊎◌, List, [], ◌∷◌, length, sym, ap, ◌∙◌, inl, inr, arith}
+use Rattle.std.proofs.Common.{◌≡◌, ℕ, ◌+◌, ◌<◌, ◌⊎◌, ⊎_elim, List, [], ◌∷◌, length, sym, ap, ◌∙◌, inl, inr, arith}
 use Rattle.std.specs.List.{AllByRecursion}
+use Rattle.std.proofs.Math.Logic.{⊎_map}
 use Rattle.std.proofs.lemmas.Bool.{cases_eq}
-use Rattle.kinds.specs.Rows.{Row, plus}
+use Rattle.kinds.specs.Rows.{plus}
 use Rattle.graph.specs.Schedules.{Record}
 use Rattle.graph.specs.Legs.{Step, StepOf, Leads, Chain, length_of, entered, NoneTwice}
 use Rattle.graph.proofs.Rows.{plus_assoc, plus_left_comm, plus_zeros}
-use Rattle.graph.proofs.Lengths.{Decided}
 
 -- a chain from u to v enters x, and falls there into two
 pub record Through (k : ℕ) (rs : List (Record k)) (u : ℕ) (ss : List (Step k)) (v x : ℕ) : Type 0 where
@@ -39,8 +39,7 @@ module _ (k : ℕ) (rs : List (Record k)) where
     back = t.back;
     upto = record { taken = (taken, t.upto.taken); joined = (e, t.upto.joined) };
     onward = t.onward;
-    length_is =
-        ap (plus k s.leg.length) t.length_is ∙ sym (plus_assoc k s.leg.length (length_of k t.front) (length_of k t.back));
+    length_is = cc (plus_assoc k s.leg.length (length_of k t.front) (length_of k t.back));
     count = omega (arith, t.count);
     moved = omega arith;
   }
@@ -50,22 +49,19 @@ module _ (k : ℕ) (rs : List (Record k)) where
       (ss : List (Step k)) (u v x : ℕ) → AllByRecursion (StepOf k rs) ss → Leads k u ss v
       → AllByRecursion (λ y. x ≡ y → ⊥) (entered k ss) ⊎ Through k rs u ss v x
   through_or_not [] u v x taken joined = inl tt
-  through_or_not (s ∷ ss) u v x taken joined = by (cases_eq x s.leg.to) (through_or_not ss s.leg.to v x taken.1 joined.1)
-    where
-      by :
-          Decided (x ≡ s.leg.to) → AllByRecursion (λ y. x ≡ y → ⊥) (entered k ss) ⊎ Through k rs s.leg.to ss v x
-          → AllByRecursion (λ y. x ≡ y → ⊥) (entered k (s ∷ ss)) ⊎ Through k rs u (s ∷ ss) v x
-      by (inl e) later = inr (record {
+  through_or_not (s ∷ ss) u v x taken joined =
+      ⊎_elim
+      (λ e. inr (record {
         front = s ∷ [];
         back = ss;
         upto = record { taken = (taken.0, tt); joined = (joined.0, sym e) };
         onward = record { taken = taken.1; joined = rw e joined.1 };
-        length_is = ap (λ (y : Row k). plus k y (length_of k ss)) (sym (plus_zeros k s.leg.length));
+        length_is = cc (plus_zeros k s.leg.length);
         count = omega arith;
         moved = omega arith;
-      })
-      by (inr e) (inl none) = inl (e, none)
-      by (inr e) (inr t) = inr (through_more s u ss v x taken.0 joined.0 t)
+      }))
+      (λ e. ⊎_map (λ none. (e, none)) (through_more s u ss v x taken.0 joined.0) (through_or_not ss s.leg.to v x taken.1 joined.1))
+      (cases_eq x s.leg.to)
 
   -- one more step before a chain with a loop
   abbrev loop_more :
@@ -104,8 +100,7 @@ module _ (k : ℕ) (rs : List (Record k)) where
           rest = s ∷ t.back;
           closed = t.upto;
           other = record { taken = (taken.0, t.onward.taken); joined = (joined.0, t.onward.joined) };
-          length_is =
-              ap (plus k s.leg.length) t.length_is ∙ plus_left_comm k s.leg.length (length_of k t.front) (length_of k t.back);
+          length_is = cc (plus_left_comm k s.leg.length (length_of k t.front) (length_of k t.back));
           count = omega (arith, t.count);
           moved = t.moved;
         },

@@ -1,11 +1,11 @@
 -- No schedule meets a list exactly when it has a ring. Records are added one by one; the first that cannot be added closes
 -- a chain shorter than zero, and with its loops taken apart some part of that enters no pin twice. Assumes nothing.
-use Rattle.std.proofs.Common.{◌≡◌, ℕ, zero, suc, ◌+◌, ◌<◌, ◌≤◌, max, ◌⊎◌, List, [], ◌∷◌, ◌++◌, length, refl, inl, inr, arith}
+use Rattle.std.proofs.Common.{◌≡◌, ℕ, zero, suc, ◌+◌, ◌<◌, ◌≤◌, max, ◌⊎◌, ⊎_elim, List, [], ◌∷◌, ◌++◌, length, refl, inl, inr, arith}
 use Rattle.std.specs.List.{ContainsAt, AllByRecursion}
 use Rattle.std.proofs.ByRecursion.{has_append_left, has_push, has_push_cases}
 use Rattle.kinds.specs.Rows.{zeros, plus, Le}
 use Rattle.graph.specs.Schedules.{Record, NotAbove, Feasible}
-use Rattle.graph.specs.Legs.{Step, Chain, length_of, entered, NoneTwice, Ring}
+use Rattle.graph.specs.Legs.{Step, Chain, length_of, Ring}
 use Rattle.graph.specs.Tables.{Cells, no_bounds, updated}
 use Rattle.graph.specs.Laws.{Same, NoScheduleExactlyWhenARing}
 use Rattle.graph.proofs.Rows.{le_refl, le_or_not, le_plus, plus_zeros}
@@ -44,11 +44,10 @@ module _ (k : ℕ) where
   rings_within : (rs : List (Record k)) (n : ℕ) → RingsWithin rs n
   rings_within rs zero [] u few c below = absurd (below (le_refl k (zeros k)))
   rings_within rs zero (s ∷ ss) u few c below = absurd (omega arith)
-  rings_within rs (suc n) ss u few c below = by (once_or_loop k rs ss u u c.taken c.joined) (rings_within rs n)
-    where
-      by : NoneTwice (entered k ss) ⊎ ((l : LoopIn k rs u ss u) × (0 < length l.rest)) → RingsWithin rs n → HasRing rs
-      by (inl once) again = (ss, record { closed = (u, c); once = once; short = below })
-      by (inr (l, some)) again = ring_in_part rs n again ss u few below l some (le_or_not k (zeros k) (length_of k l.loop))
+  rings_within rs (suc n) ss u few c below =
+      ⊎_elim (λ once. (ss, record { closed = (u, c); once = once; short = below }))
+      (λ (l, some). ring_in_part rs n (rings_within rs n) ss u few below l some (le_or_not k (zeros k) (length_of k l.loop)))
+      (once_or_loop k rs ss u u c.taken c.joined)
 
   -- a closed chain shorter than zero gives a ring
   ring_from_short : (rs : List (Record k)) → Short k rs → HasRing rs

@@ -81,29 +81,27 @@ le_or_not k a b = by (is_le (order k a b))
 -- the laws of a commutative group, place by place
 pub plus_assoc : (k : ℕ) (a b c : Row k) → plus k (plus k a b) c ≡ plus k a (plus k b c)
 plus_assoc zero a b c = refl
-plus_assoc (suc k) a b c =
-    ap₂ (λ (m : ℤ) (r : Row k). (m, r)) (+ℤ_assoc a.0 b.0 c.0) (plus_assoc k a.1 b.1 c.1)
+plus_assoc (suc k) a b c = cc (+ℤ_assoc a.0 b.0 c.0, plus_assoc k a.1 b.1 c.1)
 
 pub plus_comm : (k : ℕ) (a b : Row k) → plus k a b ≡ plus k b a
 plus_comm zero a b = refl
-plus_comm (suc k) a b = ap₂ (λ (m : ℤ) (r : Row k). (m, r)) (+ℤ_comm a.0 b.0) (plus_comm k a.1 b.1)
+plus_comm (suc k) a b = cc (+ℤ_comm a.0 b.0, plus_comm k a.1 b.1)
 
 pub zeros_plus : (k : ℕ) (a : Row k) → plus k (zeros k) a ≡ a
 zeros_plus zero a = refl
-zeros_plus (suc k) a = ap₂ (λ (m : ℤ) (r : Row k). (m, r)) (+ℤ_idl a.0) (zeros_plus k a.1)
+zeros_plus (suc k) (m, r) = cc (+ℤ_idl m, zeros_plus k r)
 
 pub plus_opposite : (k : ℕ) (a : Row k) → plus k a (opposite k a) ≡ zeros k
 plus_opposite zero a = refl
-plus_opposite (suc k) a = ap₂ (λ (m : ℤ) (r : Row k). (m, r)) (+ℤ_invr a.0) (plus_opposite k a.1)
+plus_opposite (suc k) a = cc (+ℤ_invr a.0, plus_opposite k a.1)
 
 pub opposite_opposite : (k : ℕ) (a : Row k) → opposite k (opposite k a) ≡ a
 opposite_opposite zero a = refl
-opposite_opposite (suc k) a = ap₂ (λ (m : ℤ) (r : Row k). (m, r)) (neg_ℤ-neg_ℤ a.0) (opposite_opposite k a.1)
+opposite_opposite (suc k) (m, r) = cc (neg_ℤ-neg_ℤ m, opposite_opposite k r)
 
 pub opposite_plus : (k : ℕ) (a b : Row k) → opposite k (plus k a b) ≡ plus k (opposite k a) (opposite k b)
 opposite_plus zero a b = refl
-opposite_plus (suc k) a b =
-    ap₂ (λ (m : ℤ) (r : Row k). (m, r)) (neg_ℤ-+ℤ a.0 b.0) (opposite_plus k a.1 b.1)
+opposite_plus (suc k) a b = cc (neg_ℤ-+ℤ a.0 b.0, opposite_plus k a.1 b.1)
 
 -- a common part on the left changes no order
 pub le_plus_left : (k : ℕ) (c a b : Row k) → Le k a b → Le k (plus k c a) (plus k c b)
@@ -144,7 +142,7 @@ within_upto (suc k) x y a l h = (omega arith, within_upto k x y a.1 l h.1)
 module _ (k : ℕ) where
   -- the first two of three parts in the other order
   pub plus_left_comm : (a b c : Row k) → plus k a (plus k b c) ≡ plus k b (plus k a c)
-  plus_left_comm a b c = sym (plus_assoc k a b c) ∙ ap (λ (x : Row k). plus k x c) (plus_comm k a b) ∙ plus_assoc k b a c
+  plus_left_comm a b c = cc (plus_assoc k a b c, plus_comm k a b, plus_assoc k b a c)
 
   -- zeros on the right
   pub plus_zeros : (a : Row k) → plus k a (zeros k) ≡ a
@@ -158,8 +156,7 @@ module _ (k : ℕ) where
 
   -- what was taken away is put back
   pub plus_opposite_plus : (a b : Row k) → plus k a (plus k (opposite k a) b) ≡ b
-  plus_opposite_plus a b =
-      sym (plus_assoc k a (opposite k a) b) ∙ ap (λ (x : Row k). plus k x b) (plus_opposite k a) ∙ zeros_plus k b
+  plus_opposite_plus a b = cc (plus_assoc k a (opposite k a) b, plus_opposite k a, zeros_plus k b)
 
   -- a common part is taken away on the left
   pub le_plus_cancel : (c a b : Row k) → Le k (plus k c a) (plus k c b) → Le k a b
@@ -187,12 +184,11 @@ module _ (k : ℕ) where
 
   -- the opposite of a difference
   pub opposite_minus : (a b : Row k) → opposite k (minus k a b) ≡ minus k b a
-  opposite_minus a b =
-      opposite_plus k a (opposite k b) ∙ ap (plus k (opposite k a)) (opposite_opposite k b) ∙ plus_comm k (opposite k a) b
+  opposite_minus a b = cc (opposite_plus k a (opposite k b), opposite_opposite k b, plus_comm k (opposite k a) b)
 
   -- a difference, put back
   pub plus_minus : (a b : Row k) → plus k b (minus k a b) ≡ a
-  plus_minus a b = plus_left_comm b a (opposite k b) ∙ ap (plus k a) (plus_opposite k b) ∙ plus_zeros a
+  plus_minus a b = cc (plus_left_comm b a (opposite k b), plus_opposite k b, plus_zeros a)
 
   -- a difference is at most c exactly where the one row is at most the other with c added
   pub le_plus_of_minus : (a b c : Row k) → Le k (minus k a b) c → Le k a (plus k b c)

@@ -1,18 +1,18 @@
 -- Cells stay within n − 1 times the largest end: a chain that passes a pin twice has one at most as long with the loop cut out,
 -- and one that passes none twice has at most n − 1 steps. A ring has at most n. Assumes nothing.
-use Rattle.std.proofs.Common.{◌≡◌, ℕ, zero, suc, ◌+◌, ◌-◌, ◌*◌, ◌<◌, ◌≤◌, ◌⊎◌, List, [], ◌∷◌, length, Some, None, Option, refl, subst, inl, inr, mul-le-mul_right, suc-mul, arith}
+use Rattle.std.proofs.Common.{◌≡◌, ℕ, zero, suc, ◌-◌, ◌*◌, ◌<◌, ◌≤◌, ◌⊎◌, List, [], ◌∷◌, length, Some, None, Option, refl, subst, inl, inr, mul-le-mul_right, suc-mul, add_comm, arith}
 use Rattle.std.specs.List.{AllByRecursion}
-use Rattle.std.proofs.ByRecursion.{all-has, All-weaker, All-map}
+use Rattle.std.proofs.ByRecursion.{All-weaker, All-map}
 use Rattle.std.proofs.lemmas.List.{length-map}
 use Rattle.kinds.specs.Rows.{Row, zeros, plus, Le, Within}
 use Rattle.graph.specs.Schedules.{Pin, Record, Fit}
-use Rattle.graph.specs.Legs.{Leg, End, Low, High, leg_of, Step, StepOf, Chain, length_of, entered, NoneTwice}
+use Rattle.graph.specs.Legs.{Step, StepOf, Chain, length_of, entered, NoneTwice}
 use Rattle.graph.specs.Tables.{EndsWithin, CellWithin}
 use Rattle.graph.specs.Laws.{CellsStayWithin, ARingHasAtMostNSteps}
 use Rattle.graph.proofs.Rows.{le_refl, le_trans, le_antisym, le_plus, zeros_plus, within_zeros, within_plus, within_opposite, within_upto}
-use Rattle.graph.proofs.Chains.{low_leg, high_leg}
+use Rattle.graph.proofs.Chains.{each_leg}
 use Rattle.graph.proofs.Least.{least_reached, least_bound}
-use Rattle.graph.proofs.Unique.{leg_at_record}
+use Rattle.graph.proofs.Unique.{each_step}
 use Rattle.graph.proofs.Keeping.{closed_kept}
 use Rattle.graph.proofs.Finals.{table_feasible}
 use Rattle.graph.proofs.Pigeons.{pins_at_most}
@@ -30,18 +30,11 @@ module _ (k : ℕ) (rs : List (Record k)) where
     once : NoneTwice (u ∷ entered k steps)
     upto : Le k (length_of k steps) w
 
-  -- with a part taken away that is not below zero the rest is at most as long
-  rest_le : (a b w : Row k) → Le k (zeros k) a → w ≡ plus k a b → Le k b w
-  rest_le a b w h e = rw e (rw (zeros_plus k b) at (le_plus k (zeros k) a b b h (le_refl k b)))
-
-  -- at most x long, and so at most y
-  direct_le : (u v : ℕ) (x y : Row k) → Le k x y → Direct u v x → Direct u v y
-  direct_le u v x y h g = record {
-    steps = g.steps;
-    chain = g.chain;
-    once = g.once;
-    upto = le_trans k (length_of k g.steps) x y g.upto h;
-  }
+  -- what is at most as long as the rest is at most as long as the whole, where the part taken away is not below zero
+  direct_longer : (u v : ℕ) (a b w : Row k) → Le k (zeros k) a → w ≡ plus k a b → Direct u v b → Direct u v w
+  direct_longer u v a b w h e g =
+      let rest : Le k b (plus k a b) = rw (zeros_plus k b) at (le_plus k (zeros k) a b b h (le_refl k b)) in
+      record { steps = g.steps; chain = g.chain; once = g.once; upto = rw e (le_trans k (length_of k g.steps) b (plus k a b) g.upto rest) }
 
   -- loops are cut out until none is left
   direct : NoneShort → (n : ℕ) (ss : List (Step k)) (u v : ℕ) → length ss ≤ n → Chain k rs u ss v → Direct u v (length_of k ss)
@@ -56,12 +49,10 @@ module _ (k : ℕ) (rs : List (Record k)) where
           → AllByRecursion (λ y. u ≡ y → ⊥) (entered k ss) ⊎ Through k rs u ss v u
           → ((ts : List (Step k)) → length ts ≤ n → Chain k rs u ts v → Direct u v (length_of k ts)) → Direct u v (length_of k ss)
       by (inr (l, some)) p again =
-          direct_le u v (length_of k l.rest) (length_of k ss)
-          (rest_le (length_of k l.loop) (length_of k l.rest) (length_of k ss) (none l.pin l.loop l.closed) l.length_is)
+          direct_longer u v (length_of k l.loop) (length_of k l.rest) (length_of k ss) (none l.pin l.loop l.closed) l.length_is
           (again l.rest (omega (arith, l.count, l.moved)) l.other)
       by (inl once) (inr t) again =
-          direct_le u v (length_of k t.back) (length_of k ss)
-          (rest_le (length_of k t.front) (length_of k t.back) (length_of k ss) (none u t.front t.upto) t.length_is)
+          direct_longer u v (length_of k t.front) (length_of k t.back) (length_of k ss) (none u t.front t.upto) t.length_is
           (again t.back (omega (arith, t.count, t.moved)) t.onward)
       by (inl once) (inl never) again = record { steps = ss; chain = c; once = (never, once); upto = le_refl k (length_of k ss) }
 
@@ -69,30 +60,16 @@ module _ (k : ℕ) (rs : List (Record k)) where
   entered_pins : (n : ℕ) → AllByRecursion (Fit k n) rs → (ss : List (Step k)) → AllByRecursion (StepOf k rs) ss → AllByRecursion (Pin n) (entered k ss)
   entered_pins n fit ss taken = All-map (Pin n) (λ s. s.leg.to) ss (All-weaker (StepOf k rs) (λ s. Pin n s.leg.to) pin ss taken)
     where
-      by : (r : Record k) → Fit k n r → (e : End) (g : Leg k) → leg_of k r e ≡ Some g → Pin n g.to
-      by r f Low g h = let (l, at-l, at_g) = low_leg k r g h in subst (λ (x : Leg k). Pin n x.to) at_g f.second_pin
-      by r f High g h = let (l, at-l, at_g) = high_leg k r g h in subst (λ (x : Leg k). Pin n x.to) at_g f.first_pin
-
       pin : (s : Step k) → StepOf k rs s → Pin n s.leg.to
-      pin s h =
-          let (r, has, e) = leg_at_record k rs s.number s.end s.leg h in
-          by r (all-has (Fit k n) rs r fit has) s.end s.leg e
+      pin =
+          each_step k (Fit k n) (λ g. Pin n g.to)
+          (λ r f. each_leg k (λ g. Pin n g.to) r (λ l at-l. f.second_pin) (λ l at-l. f.first_pin)) rs fit
 
   -- the length of a leg is as small as the ends are
   leg_within : (limit : ℕ) → AllByRecursion (EndsWithin k limit) rs → (s : Step k) → StepOf k rs s → Within k limit s.leg.length
-  leg_within limit small s h =
-      let (r, has, e) = leg_at_record k rs s.number s.end s.leg h in
-      by r (all-has (EndsWithin k limit) rs r small has) s.end s.leg e
-    where
-      by : (r : Record k) → EndsWithin k limit r → (e : End) (g : Leg k) → leg_of k r e ≡ Some g → Within k limit g.length
-      by r w Low g h =
-          let (l, at-l, at_g) = low_leg k r g h in
-          let x : Within k limit l = rw at-l at w.0 in
-          subst (λ (y : Leg k). Within k limit y.length) at_g (within_opposite k limit l x)
-      by r w High g h =
-          let (l, at-l, at_g) = high_leg k r g h in
-          let x : Within k limit l = rw at-l at w.1 in
-          subst (λ (y : Leg k). Within k limit y.length) at_g x
+  leg_within limit small =
+      each_step k (EndsWithin k limit) (λ g. Within k limit g.length)
+      (λ r w. each_leg k (λ g. Within k limit g.length) r (λ l e. within_opposite k limit l (rw e at w.0)) (λ h e. rw e at w.1)) rs small
 
   -- the length of a chain is within the number of its steps times the limit
   chain_within :
@@ -100,10 +77,8 @@ module _ (k : ℕ) (rs : List (Record k)) where
       → Within k (length ss * limit) (length_of k ss)
   chain_within limit small [] taken = within_zeros k (0 * limit)
   chain_within limit small (s ∷ ss) taken =
-      let one : Within k limit s.leg.length = leg_within limit small s taken.0 in
-      let rest : Within k (length ss * limit) (length_of k ss) = chain_within limit small ss taken.1 in
-      within_upto k (limit + length ss * limit) (suc (length ss) * limit) (plus k s.leg.length (length_of k ss))
-      (omega (arith, suc-mul (length ss) limit)) (within_plus k limit (length ss * limit) s.leg.length (length_of k ss) one rest)
+      rw (suc-mul (length ss) limit, add_comm (length ss * limit) limit)
+      (within_plus k limit (length ss * limit) s.leg.length (length_of k ss) (leg_within limit small s taken.0) (chain_within limit small ss taken.1))
 
 -- a cell is the length of a direct chain
 pub cells_stay_within : CellsStayWithin

@@ -1,6 +1,6 @@
 -- The table of no records, and the table once a record is added. Assumes nothing.
-use Rattle.std.proofs.Common.{◌≡◌, ℕ, Bool, true, false, cond, eqb, List, [], ◌∷◌, ◌++◌, Some, None, refl, ap, inl, inr}
-use Rattle.std.proofs.lemmas.Bool.{eqb-true, eqb-false}
+use Rattle.std.proofs.Common.{◌≡◌, ℕ, ⊎_elim, eqb, List, [], ◌∷◌, ◌++◌, Some, None, ap, inl, inr}
+use Rattle.std.proofs.lemmas.Bool.{eqb-true, eqb-false, cond_both}
 use Rattle.kinds.specs.Rows.{Row, zeros}
 use Rattle.graph.specs.Schedules.{Pin, Record}
 use Rattle.graph.specs.Tables.{Cells, Table, LeastLength, no_bounds, range_low, range_high, updated, Refused}
@@ -17,29 +17,27 @@ module _ (k : ℕ) where
 
   -- without records the least lengths are zero and absent
   pub no_bounds_least : (u v : ℕ) → LeastLength k [] u v (no_bounds k u v)
-  no_bounds_least u v = by (eqb u v) refl
-    where
-      by : (t : Bool) → eqb u v ≡ t → LeastLength k [] u v (cond t (Some (zeros k)) None)
-      by true e =
-          least_from k [] u v (Some (zeros k)) (λ w h. ([], record { taken = tt; joined = eqb-true u v e }, (cc)))
-          (λ w h. at_most_some k (Some (zeros k)) w (ap Some (reached_none u v w h).1))
-      by false e =
-          least_from k [] u v None (λ w h. absurd (none_some w h)) (λ w h. absurd (eqb-false u v e (reached_none u v w h).0))
+  no_bounds_least u v =
+      cond_both (eqb u v) (Some (zeros k)) None (LeastLength k [] u v)
+      (λ e.
+      least_from k [] u v (Some (zeros k)) (λ w h. ([], record { taken = tt; joined = eqb-true u v e }, (cc)))
+      (λ w h. at_most_some k (Some (zeros k)) w (ap Some (reached_none u v w h).1)))
+      (λ e. least_from k [] u v None (λ w h. absurd (none_some w h)) (λ w h. absurd (eqb-false u v e (reached_none u v w h).0)))
 
-  -- whether each end fits the range is decided
+  -- whether the low end fits the range is decided
   pub low_fits_or_not : (d : Cells k) (r : Record k) → Decided (LowFits k d r)
   low_fits_or_not d r = not_above_or_above k r.low (range_high k d r.first r.second)
 
+  -- and whether the high end does
   pub high_fits_or_not : (d : Cells k) (r : Record k) → Decided (HighFits k d r)
   high_fits_or_not d r = not_above_or_above k (range_low k d r.first r.second) r.high
 
   -- both ends of a record that is not refused fit the range
   pub not_refused : (d : Cells k) (r : Record k) → (Refused k d r → ⊥) → LowFits k d r × HighFits k d r
-  not_refused d r h = (by inl (low_fits_or_not d r), by inr (high_fits_or_not d r))
-    where
-      by : {A : Type 0} → ((A → ⊥) → Refused k d r) → Decided A → A
-      by f (inl a) = a
-      by f (inr a) = absurd (h (f a))
+  not_refused d r h = (
+    ⊎_elim (λ p. p) (λ n. absurd (h (inl n))) (low_fits_or_not d r),
+    ⊎_elim (λ p. p) (λ n. absurd (h (inr n))) (high_fits_or_not d r),
+  )
 
   -- least lengths between pins are a table: its diagonal is zero
   table_from : (n : ℕ) (rs : List (Record k)) (d : Cells k) → LeastOn k (Pin n) rs d → Table k n rs d

@@ -1,6 +1,7 @@
 -- Lists with the same records reach the same lengths, so a table is unique. Assumes nothing.
 use Rattle.std.proofs.Common.{◌≡◌, ℕ, zero, suc, List, [], ◌∷◌, Some, None, Option, refl, ap, ◌∙◌, arith}
 use Rattle.std.specs.List.{ContainsAt, AllByRecursion}
+use Rattle.std.proofs.ByRecursion.{all-has}
 use Rattle.kinds.specs.Rows.{Row, plus}
 use Rattle.graph.specs.Schedules.{Record}
 use Rattle.graph.specs.Legs.{Leg, End, leg_of, Step, leg_at, StepOf, Leads, length_of}
@@ -18,6 +19,14 @@ module _ (k : ℕ) where
   leg_at_record [] p e g h = absurd (none_some g h)
   leg_at_record (r ∷ rs) zero e g h = (r, (0, omega arith, λ d. refl), h)
   leg_at_record (r ∷ rs) (suc p) e g h = let (x, (q, l, at), f) = leg_at_record rs p e g h in (x, (suc q, omega arith, at), f)
+
+  -- what holds of the legs of each record of a list holds of each step
+  pub each_step :
+      (Q : Record k → Type 0) (P : Leg k → Type 0) → ((r : Record k) → Q r → (e : End) (g : Leg k) → leg_of k r e ≡ Some g → P g)
+      → (rs : List (Record k)) → AllByRecursion Q rs → (s : Step k) → StepOf k rs s → P s.leg
+  each_step Q P f rs all s h =
+      let (r, has, e) = leg_at_record rs s.number s.end s.leg h in
+      f r (all-has Q rs r all has) s.end s.leg e
 
   -- each leg of a record that stands in a list is one of the list
   pub record_leg_at :

@@ -2,8 +2,9 @@
 -- A chain over the longer list falls into chains over the shorter one and the two new legs. From its end to its start, each
 -- new leg is absorbed: one leg twice has a way back between that makes up for it, and both legs together bring nothing, so
 -- the new cell is never above the chain. And each new cell is the length of a chain, made of the parts. Assumes nothing.
-use Rattle.std.proofs.Common.{◌≡◌, ℕ, ◌⊎◌, List, [], ◌∷◌, ◌++◌, Some, Option, sym, refl, ap, ◌∙◌, subst, inl, inr}
+use Rattle.std.proofs.Common.{◌≡◌, ℕ, ◌⊎◌, ⊎_elim, List, [], ◌∷◌, ◌++◌, Some, Option, sym, refl, ap, ◌∙◌, subst, inl, inr}
 use Rattle.std.specs.List.{AllByRecursion}
+use Rattle.std.proofs.Math.Logic.{⊎_swap, ⊎_map}
 use Rattle.kinds.specs.Rows.{Row, zeros, plus, opposite, Le}
 use Rattle.graph.specs.Schedules.{Record, NotAbove}
 use Rattle.graph.specs.Legs.{Leg, End, Low, High, leg_of, Step, StepOf, Leads, Chain, length_of}
@@ -12,7 +13,7 @@ use Rattle.graph.proofs.Rows.{le_plus, le_by, plus_assoc, plus_comm, plus_left_c
 use Rattle.graph.proofs.Lengths.{AtMost, mapped_some, lesser_cases, negated_cases, negated_negated, not_above_gap, negated_not_above_gap}
 use Rattle.graph.proofs.Lengths.{at_most_negated, at_most_lesser_left, at_most_lesser_right, added_parts, at_most_row, at_most_le}
 use Rattle.graph.proofs.Lengths.{at_most_some, at_most_added, at_most_sum, at_most_sum_parts}
-use Rattle.graph.proofs.Chains.{low_leg, high_leg, low_way, high_way, leg_of_low, leg_of_high, chain_none, chain_append, length_of_append, leg_at_cases}
+use Rattle.graph.proofs.Chains.{each_leg, low_way, high_way, leg_of_low, leg_of_high, chain_none, chain_append, length_of_append, leg_at_cases}
 use Rattle.graph.proofs.Least.{Reaches, LeastOn, reaches_append, reaches_push, reaches_last, least_reached, least_bound, least_zero, least_from}
 
 -- the low end is not above the range of the record's pins
@@ -22,12 +23,6 @@ LowFits k d r = NotAbove k r.low (range_high k d r.first r.second)
 -- the high end is not below it
 abbrev pub HighFits : (k : ℕ) → Cells k → Record k → Type 0
 HighFits k d r = NotAbove k (range_low k d r.first r.second) r.high
-
--- the last two of three cases in the other order
-swapped : {A B C : Type 0} → A ⊎ (B ⊎ C) → A ⊎ (C ⊎ B)
-swapped (inl h) = inl h
-swapped (inr (inl h)) = inr (inr h)
-swapped (inr (inr h)) = inr (inl h)
 
 module _ (k : ℕ) where
   -- over one new leg twice: the way back between makes up for the second time
@@ -97,56 +92,50 @@ module _ (k : ℕ) where
       abbrev New : ℕ → ℕ → Row k → Type 0
       New u v w = Matched r.first r.second (negated k (cut_low k d r)) (cut_high k d r) u v w
 
+      -- from u to v over the cut low end
+      abbrev over_low : ℕ → ℕ → Option (Row k)
+      over_low u v = over d u r.first (negated k (cut_low k d r)) r.second v
+
+      -- from u to v over the cut high end
+      abbrev over_high : ℕ → ℕ → Option (Row k)
+      over_high u v = over d u r.second (cut_high k d r) r.first v
+
       -- the low end and the cut high end leave a gap
       low_gap : (l x : Row k) → r.low ≡ Some l → cut_high k d r ≡ Some x → Le k (zeros k) (plus k (opposite k l) x)
-      low_gap l x e f = by (lesser_cases k r.high (d r.second r.first) x f)
-        where
-          by : (r.high ≡ Some x) ⊎ (d r.second r.first ≡ Some x) → Le k (zeros k) (plus k (opposite k l) x)
-          by (inl g) = not_above_gap k r.low r.high l x forward e g
-          by (inr g) = not_above_gap k r.low (d r.second r.first) l x low_fits e g
+      low_gap l x e f =
+          ⊎_elim (not_above_gap k r.low r.high l x forward e) (not_above_gap k r.low (d r.second r.first) l x low_fits e)
+          (lesser_cases k r.high (d r.second r.first) x f)
 
       -- the cut low end is the record's or the range's
       cut_low_cases :
           (x : Row k) → negated k (cut_low k d r) ≡ Some x
           → ((l : Row k) × (r.low ≡ Some l) × (opposite k l ≡ x)) ⊎ (d r.first r.second ≡ Some x)
-      cut_low_cases x e = by (negated_cases k r.low (negated k (d r.first r.second)) x e)
-        where
-          by :
-              (negated k r.low ≡ Some x) ⊎ (negated k (negated k (d r.first r.second)) ≡ Some x)
-              → ((l : Row k) × (r.low ≡ Some l) × (opposite k l ≡ x)) ⊎ (d r.first r.second ≡ Some x)
-          by (inl g) = inl (mapped_some (opposite k) r.low x g)
-          by (inr g) = inr (sym (negated_negated k (d r.first r.second)) ∙ g)
+      cut_low_cases x e =
+          ⊎_map (mapped_some (opposite k) r.low x) (λ g. sym (negated_negated k (d r.first r.second)) ∙ g)
+          (negated_cases k r.low (negated k (d r.first r.second)) x e)
 
       -- the high end and the cut low end leave a gap
       high_gap : (h x : Row k) → r.high ≡ Some h → negated k (cut_low k d r) ≡ Some x → Le k (zeros k) (plus k h x)
-      high_gap h x e f = by (cut_low_cases x f)
-        where
-          by : ((l : Row k) × (r.low ≡ Some l) × (opposite k l ≡ x)) ⊎ (d r.first r.second ≡ Some x) → Le k (zeros k) (plus k h x)
-          by (inl (l, at-l, is_x)) = rw (is_x, plus_comm k x h) at (not_above_gap k r.low r.high l h forward at-l e)
-          by (inr g) = negated_not_above_gap k (d r.first r.second) r.high x h high_fits g e
+      high_gap h x e f =
+          ⊎_elim (λ (l, at-l, is_x). rw (is_x, plus_comm k x h) at (not_above_gap k r.low r.high l h forward at-l e))
+          (λ g. negated_not_above_gap k (d r.first r.second) r.high x h high_fits g e) (cut_low_cases x f)
 
       -- a new leg is absorbed, whichever of the two it is
       new_over :
           (e : End) (g : Leg k) → leg_of k r e ≡ Some g → (u v : ℕ) (p q : Row k) → P u → P v
           → (P g.from → AtMost k (d u g.from) p) → (P g.to → New g.to v q) → New u v (plus k p (plus k g.length q))
-      new_over Low g h u v p q pu pv =
-          let (l, at-l, at_g) = low_leg k r g h in
-          let R : Leg k → Type 0 =
-          λ x. (P x.from → AtMost k (d u x.from) p) → (P x.to → New x.to v q) → New u v (plus k p (plus k x.length q)) in
-          subst R at_g (λ before after.
+      new_over e g h u v p q pu pv =
+          each_leg k (λ x. (P x.from → AtMost k (d u x.from) p) → (P x.to → New x.to v q) → New u v (plus k p (plus k x.length q))) r
+          (λ l at-l before after.
           matched_over r.first r.second (negated k (cut_low k d r)) (cut_high k d r) u v (opposite k l) p q pu first second pv
           (at_most_negated k r.low (negated k (d r.first r.second)) (opposite k l) (ap (negated k) at-l))
           (λ x e. not_above_gap k r.low (d r.second r.first) l x low_fits at-l e)
           (λ x e. low_gap l x at-l e) (before first) (after second))
-      new_over High g h u v p q pu pv =
-          let (l, at-l, at_g) = high_leg k r g h in
-          let R : Leg k → Type 0 =
-          λ x. (P x.from → AtMost k (d u x.from) p) → (P x.to → New x.to v q) → New u v (plus k p (plus k x.length q)) in
-          subst R at_g (λ before after. swapped
+          (λ l at-l before after. ⊎_map (λ m. m) ⊎_swap
           (matched_over r.second r.first (cut_high k d r) (negated k (cut_low k d r)) u v l p q pu second first pv
           (at_most_lesser_left k r.high (d r.second r.first) l (at_most_some k r.high l at-l))
           (λ x e. negated_not_above_gap k (d r.first r.second) r.high x l high_fits e at-l)
-          (λ x e. high_gap l x at-l e) (before second) (swapped (after first))))
+          (λ x e. high_gap l x at-l e) (before second) (⊎_map (λ m. m) ⊎_swap (after first)))) e g h
 
       -- a chain over the longer list, behind one over the shorter, is matched
       matched_all :
@@ -156,38 +145,28 @@ module _ (k : ℕ) where
           inl (least_bound k rs u v (d u v) (plus k (length_of k ps) (zeros k)) (least u v pu pv)
           (ps, rw (← joined) c, sym (plus_zeros k (length_of k ps))))
       matched_all (s ∷ ss) x v u ps pu pv c taken joined =
-          by (leg_at_cases k rs r s.number s.end s.leg taken.0)
-          (λ y qs py b. matched_all ss s.leg.to v y qs py pv b taken.1 joined.1)
-        where
-          by :
-              StepOf k rs s ⊎ (leg_of k r s.end ≡ Some s.leg)
-              → ((y : ℕ) (qs : List (Step k)) → P y → Chain k rs y qs s.leg.to → New y v (plus k (length_of k qs) (length_of k ss)))
-              → New u v (plus k (length_of k ps) (plus k s.leg.length (length_of k ss)))
-          by (inl old) rest =
-              let one : Chain k rs x (s ∷ []) s.leg.to = record { taken = (old, tt); joined = (joined.0, refl) } in
-              let e : plus k (length_of k (ps ++ s ∷ [])) (length_of k ss) ≡ plus k (length_of k ps) (plus k s.leg.length (length_of k ss)) =
-              simp (length_of_append k, plus_zeros k, plus_assoc k) in
-              subst (New u v) e (rest u (ps ++ s ∷ []) pu (chain_append k rs u ps x (s ∷ []) s.leg.to c one))
-          by (inr new) rest =
-              new_over s.end s.leg new u v (length_of k ps) (length_of k ss) pu pv
-              (λ pf. least_bound k rs u s.leg.from (d u s.leg.from) (length_of k ps) (least u s.leg.from pu pf) (ps, rw (← joined.0) c, refl))
-              (λ pt. subst (New s.leg.to v) (zeros_plus k (length_of k ss)) (rest s.leg.to [] pt (chain_none k rs s.leg.to)))
+          let moved : plus k (length_of k (ps ++ s ∷ [])) (length_of k ss) ≡ plus k (length_of k ps) (plus k s.leg.length (length_of k ss)) =
+          simp (length_of_append k, plus_zeros k, plus_assoc k) in
+          ⊎_elim
+          (λ old.
+          let one : Chain k rs x (s ∷ []) s.leg.to = record { taken = (old, tt); joined = (joined.0, refl) } in
+          subst (New u v) moved (matched_all ss s.leg.to v u (ps ++ s ∷ []) pu pv (chain_append k rs u ps x (s ∷ []) s.leg.to c one) taken.1 joined.1))
+          (λ new.
+          new_over s.end s.leg new u v (length_of k ps) (length_of k ss) pu pv
+          (λ pf. least_bound k rs u s.leg.from (d u s.leg.from) (length_of k ps) (least u s.leg.from pu pf) (ps, rw (← joined.0) c, refl))
+          (λ pt.
+          subst (New s.leg.to v) (zeros_plus k (length_of k ss))
+          (matched_all ss s.leg.to v s.leg.to [] pt pv (chain_none k rs s.leg.to) taken.1 joined.1)))
+          (leg_at_cases k rs r s.number s.end s.leg taken.0)
 
       -- no chain over the longer list is shorter than the new cell
       updated_bound : (u v : ℕ) (w : Row k) → P u → P v → Reaches k (rs ++ r ∷ []) u v w → AtMost k (updated k d r u v) w
       updated_bound u v w pu pv (ss, c, e) =
-          by (subst (New u v) (zeros_plus k (length_of k ss) ∙ e) (matched_all ss u v u [] pu pv (chain_none k rs u) c.taken c.joined))
-        where
-          low : Option (Row k)
-          low = over d u r.first (negated k (cut_low k d r)) r.second v
-
-          high : Option (Row k)
-          high = over d u r.second (cut_high k d r) r.first v
-
-          by : New u v w → AtMost k (updated k d r u v) w
-          by (inl h) = at_most_lesser_left k (d u v) (lesser k low high) w h
-          by (inr (inl h)) = at_most_lesser_right k (d u v) (lesser k low high) w (at_most_lesser_left k low high w h)
-          by (inr (inr h)) = at_most_lesser_right k (d u v) (lesser k low high) w (at_most_lesser_right k low high w h)
+          ⊎_elim (at_most_lesser_left k (d u v) (lesser k (over_low u v) (over_high u v)) w)
+          (λ h.
+          at_most_lesser_right k (d u v) (lesser k (over_low u v) (over_high u v)) w
+          (⊎_elim (at_most_lesser_left k (over_low u v) (over_high u v) w) (at_most_lesser_right k (over_low u v) (over_high u v) w) h))
+          (subst (New u v) (zeros_plus k (length_of k ss) ∙ e) (matched_all ss u v u [] pu pv (chain_none k rs u) c.taken c.joined))
 
       -- an old cell that is there is reached over the longer list too
       reached_old : (u v : ℕ) (w : Row k) → P u → P v → d u v ≡ Some w → Reaches k (rs ++ r ∷ []) u v w
@@ -195,21 +174,15 @@ module _ (k : ℕ) where
 
       -- the opposite of the cut low end is reached from the first pin to the second
       reached_low : (w : Row k) → negated k (cut_low k d r) ≡ Some w → Reaches k (rs ++ r ∷ []) r.first r.second w
-      reached_low w e = by (cut_low_cases w e)
-        where
-          by :
-              ((l : Row k) × (r.low ≡ Some l) × (opposite k l ≡ w)) ⊎ (d r.first r.second ≡ Some w)
-              → Reaches k (rs ++ r ∷ []) r.first r.second w
-          by (inl (l, at-l, is-w)) = rw (← is-w) (reaches_last k rs r Low (low_way k r l) (leg_of_low k r l at-l))
-          by (inr h) = reached_old r.first r.second w first second h
+      reached_low w e =
+          ⊎_elim (λ (l, at-l, is-w). rw (← is-w) (reaches_last k rs r Low (low_way k r l) (leg_of_low k r l at-l)))
+          (reached_old r.first r.second w first second) (cut_low_cases w e)
 
       -- the cut high end is reached from the second pin to the first
       reached_high : (w : Row k) → cut_high k d r ≡ Some w → Reaches k (rs ++ r ∷ []) r.second r.first w
-      reached_high w e = by (lesser_cases k r.high (d r.second r.first) w e)
-        where
-          by : (r.high ≡ Some w) ⊎ (d r.second r.first ≡ Some w) → Reaches k (rs ++ r ∷ []) r.second r.first w
-          by (inl h) = reaches_last k rs r High (high_way k r w) (leg_of_high k r w h)
-          by (inr h) = reached_old r.second r.first w second first h
+      reached_high w e =
+          ⊎_elim (λ h. reaches_last k rs r High (high_way k r w) (leg_of_high k r w h)) (reached_old r.second r.first w second first)
+          (lesser_cases k r.high (d r.second r.first) w e)
 
       -- a sum over a leg that is reached is reached
       reached_over :
@@ -226,21 +199,11 @@ module _ (k : ℕ) where
 
       -- a new cell that is there is reached
       updated_reached : (u v : ℕ) (w : Row k) → P u → P v → updated k d r u v ≡ Some w → Reaches k (rs ++ r ∷ []) u v w
-      updated_reached u v w pu pv e = by (lesser_cases k (d u v) (lesser k low high) w e)
-        where
-          low : Option (Row k)
-          low = over d u r.first (negated k (cut_low k d r)) r.second v
-
-          high : Option (Row k)
-          high = over d u r.second (cut_high k d r) r.first v
-
-          new : (low ≡ Some w) ⊎ (high ≡ Some w) → Reaches k (rs ++ r ∷ []) u v w
-          new (inl h) = reached_over u r.first r.second v (negated k (cut_low k d r)) w pu first second pv reached_low h
-          new (inr h) = reached_over u r.second r.first v (cut_high k d r) w pu second first pv reached_high h
-
-          by : (d u v ≡ Some w) ⊎ (lesser k low high ≡ Some w) → Reaches k (rs ++ r ∷ []) u v w
-          by (inl h) = reached_old u v w pu pv h
-          by (inr h) = new (lesser_cases k low high w h)
+      updated_reached u v w pu pv e =
+          ⊎_elim (reached_old u v w pu pv)
+          (λ h. ⊎_elim (reached_over u r.first r.second v (negated k (cut_low k d r)) w pu first second pv reached_low)
+          (reached_over u r.second r.first v (cut_high k d r) w pu second first pv reached_high)
+          (lesser_cases k (over_low u v) (over_high u v) w h)) (lesser_cases k (d u v) (lesser k (over_low u v) (over_high u v)) w e)
 
       -- the new cells are the least lengths over the longer list
       pub updated_least : LeastOn k P (rs ++ r ∷ []) (updated k d r)

@@ -6,7 +6,8 @@ use crate::time::{FIELD, Time, Unwritten, Written};
 use crate::{field, number};
 use std::cmp::Ordering;
 
-#[derive(Clone, Copy, Debug)]
+// Its two numbers have names, which an array of any length for all kinds would not have.
+#[derive(Clone, Copy, Debug, PartialEq, Eq, PartialOrd, Ord)]
 pub struct Guarded {
     pub picoseconds: i64,
     pub guard: i64,
@@ -15,15 +16,11 @@ pub struct Guarded {
 impl Time for Guarded {
     const COUNT: usize = 2;
 
-    ghost count = { 2 };
+    ghost COUNT = { 2 };
 
     ghost row = { λ t. (t.picoseconds, (t.guard, tt)) };
 
     ghost counted = { Prim.search rules };
-
-    fn numbers() -> usize {
-        Self::COUNT
-    }
 
     fn zero() -> Guarded {
         Guarded {
@@ -33,20 +30,21 @@ impl Time for Guarded {
     }
 
     fn sum(self, other: Guarded) -> Option<Guarded> {
-        let picoseconds = number::sum(self.picoseconds, other.picoseconds)?;
-        let guard = number::sum(self.guard, other.guard)?;
-        Some(Guarded { picoseconds, guard })
+        Some(Guarded {
+            picoseconds: number::sum(self.picoseconds, other.picoseconds)?,
+            guard: number::sum(self.guard, other.guard)?,
+        })
     }
 
     fn opposite(self) -> Option<Guarded> {
-        let picoseconds = number::opposite(self.picoseconds)?;
-        let guard = number::opposite(self.guard)?;
-        Some(Guarded { picoseconds, guard })
+        Some(Guarded {
+            picoseconds: number::opposite(self.picoseconds)?,
+            guard: number::opposite(self.guard)?,
+        })
     }
 
     fn compare(self, other: Guarded) -> Ordering {
-        let first = self.picoseconds.cmp(&other.picoseconds);
-        first.then(self.guard.cmp(&other.guard))
+        self.cmp(&other)
     }
 
     fn within(self, limit: u64) -> bool {
@@ -56,18 +54,18 @@ impl Time for Guarded {
 
 impl Written for Guarded {
     fn read(columns: &[u8]) -> Option<Guarded> {
-        if columns.len() < FIELD {
-            return None;
-        }
-        let picoseconds = field::read(&columns[..FIELD])?;
-        let guard = field::read(&columns[FIELD..])?;
-        Some(Guarded { picoseconds, guard })
+        let (first, second) = columns.split_at_checked(FIELD)?;
+        Some(Guarded {
+            picoseconds: field::read(first)?,
+            guard: field::read(second)?,
+        })
     }
 
     fn write(self, columns: &mut [u8]) -> Result<(), Unwritten> {
         field::admit(self, columns.len())?;
-        field::put(self.picoseconds, columns, 0);
-        field::put(self.guard, columns, FIELD);
+        let (first, second) = columns.split_at_mut(FIELD);
+        columns::write(self.picoseconds, first)?;
+        columns::write(self.guard, second)?;
         Ok(())
     }
 }

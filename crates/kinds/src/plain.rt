@@ -5,7 +5,7 @@ use crate::time::{Time, Unwritten, Written};
 use crate::{field, number};
 use std::cmp::Ordering;
 
-#[derive(Clone, Copy, Debug)]
+#[derive(Clone, Copy, Debug, PartialEq, Eq, PartialOrd, Ord)]
 pub struct Plain {
     pub picoseconds: i64,
 }
@@ -13,32 +13,30 @@ pub struct Plain {
 impl Time for Plain {
     const COUNT: usize = 1;
 
-    ghost count = { 1 };
+    ghost COUNT = { 1 };
 
     ghost row = { λ t. (t.picoseconds, tt) };
 
     ghost counted = { Prim.search rules };
-
-    fn numbers() -> usize {
-        Self::COUNT
-    }
 
     fn zero() -> Plain {
         Plain { picoseconds: 0 }
     }
 
     fn sum(self, other: Plain) -> Option<Plain> {
-        let picoseconds = number::sum(self.picoseconds, other.picoseconds)?;
-        Some(Plain { picoseconds })
+        Some(Plain {
+            picoseconds: number::sum(self.picoseconds, other.picoseconds)?,
+        })
     }
 
     fn opposite(self) -> Option<Plain> {
-        let picoseconds = number::opposite(self.picoseconds)?;
-        Some(Plain { picoseconds })
+        Some(Plain {
+            picoseconds: number::opposite(self.picoseconds)?,
+        })
     }
 
     fn compare(self, other: Plain) -> Ordering {
-        self.picoseconds.cmp(&other.picoseconds)
+        self.cmp(&other)
     }
 
     fn within(self, limit: u64) -> bool {
@@ -48,13 +46,14 @@ impl Time for Plain {
 
 impl Written for Plain {
     fn read(columns: &[u8]) -> Option<Plain> {
-        let picoseconds = field::read(columns)?;
-        Some(Plain { picoseconds })
+        Some(Plain {
+            picoseconds: field::read(columns)?,
+        })
     }
 
     fn write(self, columns: &mut [u8]) -> Result<(), Unwritten> {
         field::admit(self, columns.len())?;
-        field::put(self.picoseconds, columns, 0);
+        columns::write(self.picoseconds, columns)?;
         Ok(())
     }
 }

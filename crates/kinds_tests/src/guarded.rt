@@ -1,21 +1,26 @@
 // Guarded picoseconds, as pairs of picoseconds and guard.
-use crate::fields::check_write;
+use crate::checks::{Numbered, check_comparisons, check_reads, check_sums, check_writes};
 use kinds::guarded::Guarded;
-use kinds::time::{Time, Unwritten, Written};
+use kinds::time::Unwritten;
 use std::cmp::Ordering;
-use std::process::Abort;
+use std::test::Fail;
 
-fn guarded(numbers: (i64, i64)) -> Guarded {
-    let (picoseconds, guard) = numbers;
-    Guarded { picoseconds, guard }
+impl Numbered for Guarded {
+    type Numbers = (i64, i64);
+
+    type Meaning = (i64, i64);
+
+    fn of((picoseconds, guard): (i64, i64)) -> Guarded {
+        Guarded { picoseconds, guard }
+    }
+
+    fn meaning(self) -> (i64, i64) {
+        (self.picoseconds, self.guard)
+    }
 }
 
-fn numbers(value: Option<Guarded>) -> Option<(i64, i64)> {
-    let Guarded { picoseconds, guard } = value?;
-    Some((picoseconds, guard))
-}
-
-fn sums(rt: &impl Abort) {
+#[test]
+fn sums(rt: HostRuntime) {
     let cases = [
         ((1, 2), (3, -4), Some((4, -2))),
         (
@@ -33,12 +38,11 @@ fn sums(rt: &impl Abort) {
         ((0, i64::MIN), (0, -1), None),
         ((i64::MIN, i64::MAX), (i64::MAX, i64::MIN), Some((-1, -1))),
     ];
-    for (value, other, sum) in cases {
-        assert_eq!(rt; numbers(guarded(value).sum(guarded(other))), sum);
-    }
+    check_sums::<Guarded>(&rt, &cases);
 }
 
-fn comparisons(rt: &impl Abort) {
+#[test]
+fn comparisons(rt: HostRuntime) {
     let cases = [
         ((1, 9), (2, 0), Ordering::Less),
         ((2, 0), (1, 9), Ordering::Greater),
@@ -49,12 +53,11 @@ fn comparisons(rt: &impl Abort) {
         ((i64::MIN, i64::MAX), (i64::MAX, i64::MIN), Ordering::Less),
         ((0, i64::MAX), (0, i64::MIN), Ordering::Greater),
     ];
-    for (value, other, order) in cases {
-        assert_eq!(rt; guarded(value).compare(guarded(other)), order);
-    }
+    check_comparisons::<Guarded>(&rt, &cases);
 }
 
-fn reads(rt: &impl Abort) {
+#[test]
+fn reads(rt: HostRuntime) {
     let cases = [
         ("           5          -1", Some((5, -1))),
         (
@@ -78,67 +81,40 @@ fn reads(rt: &impl Abort) {
         ("           5           -1", None),
         ("           5          -1           0", None),
     ];
-    for (columns, value) in cases {
-        assert_eq!(rt;
-            numbers(Guarded::read(columns.as_bytes())),
-            value,
-            "{}",
-            columns
-        );
-    }
-}
-
-fn writes(rt: &impl Abort) {
-    let cases = [
-        ((5, -1), Ok(()), "           5          -1"),
-        (
-            (-99_999_999_999, 99_999_999_999),
-            Ok(()),
-            "-99999999999 99999999999",
-        ),
-        (
-            (100_000_000_000, 0),
-            Err(Unwritten::TooLarge),
-            "xxxxxxxxxxxxxxxxxxxxxxxx",
-        ),
-        (
-            (0, 100_000_000_000),
-            Err(Unwritten::TooLarge),
-            "xxxxxxxxxxxxxxxxxxxxxxxx",
-        ),
-        (
-            (0, -100_000_000_000),
-            Err(Unwritten::TooLarge),
-            "xxxxxxxxxxxxxxxxxxxxxxxx",
-        ),
-        (
-            (i64::MIN, i64::MAX),
-            Err(Unwritten::TooLarge),
-            "xxxxxxxxxxxxxxxxxxxxxxxx",
-        ),
-        ((0, 0), Err(Unwritten::WrongWidth), ""),
-        ((0, 0), Err(Unwritten::WrongWidth), "xxxxxxxxxxxx"),
-        (
-            (0, 0),
-            Err(Unwritten::WrongWidth),
-            "xxxxxxxxxxxxxxxxxxxxxxx",
-        ),
-        (
-            (0, 0),
-            Err(Unwritten::WrongWidth),
-            "xxxxxxxxxxxxxxxxxxxxxxxxx",
-        ),
-        ((0, i64::MAX), Err(Unwritten::WrongWidth), "xxxxxxxxxxxx"),
-    ];
-    for (value, answer, after) in cases {
-        check_write(rt, guarded(value), answer, after);
-    }
+    check_reads::<Guarded>(&rt, &cases);
 }
 
 #[test]
-fn guarded_time(rt: HostRuntime) {
-    sums(&rt);
-    comparisons(&rt);
-    reads(&rt);
-    writes(&rt);
+fn writes(rt: HostRuntime) -> Result<(), Fail> {
+    let cases = [
+        ((5, -1), "           5          -1"),
+        (
+            (-99_999_999_999, 99_999_999_999),
+            "-99999999999 99999999999",
+        ),
+    ];
+    check_writes::<Guarded>(&rt, rt.alloc(), Ok(()), &cases)
+}
+
+#[test]
+fn refuses_large_numbers(rt: HostRuntime) -> Result<(), Fail> {
+    let cases = [
+        ((100_000_000_000, 0), "xxxxxxxxxxxxxxxxxxxxxxxx"),
+        ((0, 100_000_000_000), "xxxxxxxxxxxxxxxxxxxxxxxx"),
+        ((0, -100_000_000_000), "xxxxxxxxxxxxxxxxxxxxxxxx"),
+        ((i64::MIN, i64::MAX), "xxxxxxxxxxxxxxxxxxxxxxxx"),
+    ];
+    check_writes::<Guarded>(&rt, rt.alloc(), Err(Unwritten::TooLarge), &cases)
+}
+
+#[test]
+fn refuses_other_widths(rt: HostRuntime) -> Result<(), Fail> {
+    let cases = [
+        ((0, 0), ""),
+        ((0, 0), "xxxxxxxxxxxx"),
+        ((0, 0), "xxxxxxxxxxxxxxxxxxxxxxx"),
+        ((0, 0), "xxxxxxxxxxxxxxxxxxxxxxxxx"),
+        ((0, i64::MAX), "xxxxxxxxxxxx"),
+    ];
+    check_writes::<Guarded>(&rt, rt.alloc(), Err(Unwritten::WrongWidth), &cases)
 }

@@ -2,7 +2,7 @@
 #![tactic(auto)]
 
 #[cfg(test)]
-mod fields;
+mod checks;
 #[cfg(test)]
 mod guarded;
 #[cfg(test)]

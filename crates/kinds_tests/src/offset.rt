@@ -1,20 +1,24 @@
 // The kind with an offset, as pairs of number and offset. What a pair means is their sum.
-use kinds::time::Time;
+use crate::checks::{Numbered, check_comparisons, check_sums};
 use offsets::Offset;
 use std::cmp::Ordering;
-use std::process::Abort;
 
-fn pair(numbers: (i64, i64)) -> Offset {
-    let (number, offset) = numbers;
-    Offset { number, offset }
+impl Numbered for Offset {
+    type Numbers = (i64, i64);
+
+    type Meaning = i128;
+
+    fn of((number, offset): (i64, i64)) -> Offset {
+        Offset { number, offset }
+    }
+
+    fn meaning(self) -> i128 {
+        i128::from(self.number) + i128::from(self.offset)
+    }
 }
 
-fn whole(value: Option<Offset>) -> Option<i128> {
-    let Offset { number, offset } = value?;
-    Some(i128::from(number) + i128::from(offset))
-}
-
-fn sums(rt: &impl Abort) {
+#[test]
+fn sums(rt: HostRuntime) {
     let cases = [
         ((1, 2), (3, -10), Some(-4)),
         ((1_000_000_000_000, 0), (0, 0), Some(1_000_000_000_000)),
@@ -28,12 +32,11 @@ fn sums(rt: &impl Abort) {
         ((i64::MAX, i64::MAX), (i64::MAX, i64::MAX), None),
         ((i64::MIN, i64::MIN), (i64::MIN, i64::MIN), None),
     ];
-    for (value, other, sum) in cases {
-        assert_eq!(rt; whole(pair(value).sum(pair(other))), sum);
-    }
+    check_sums::<Offset>(&rt, &cases);
 }
 
-fn comparisons(rt: &impl Abort) {
+#[test]
+fn comparisons(rt: HostRuntime) {
     let cases = [
         // Other pairs of one meaning.
         ((5, 0), (0, 5), Ordering::Equal),
@@ -54,13 +57,5 @@ fn comparisons(rt: &impl Abort) {
         ),
         ((i64::MIN, i64::MIN), (i64::MAX, i64::MAX), Ordering::Less),
     ];
-    for (value, other, order) in cases {
-        assert_eq!(rt; pair(value).compare(pair(other)), order);
-    }
-}
-
-#[test]
-fn time_with_an_offset(rt: HostRuntime) {
-    sums(&rt);
-    comparisons(&rt);
+    check_comparisons::<Offset>(&rt, &cases);
 }

@@ -1,19 +1,29 @@
 // Plain picoseconds.
-use crate::fields::check_write;
+use crate::checks::{
+    Numbered, check_comparisons, check_limits, check_opposites, check_reads, check_sums,
+    check_writes,
+};
 use kinds::plain::Plain;
-use kinds::time::{Time, Unwritten, Written};
+use kinds::time::Unwritten;
 use std::cmp::Ordering;
-use std::process::Abort;
+use std::test::Fail;
 
-fn plain(picoseconds: i64) -> Plain {
-    Plain { picoseconds }
+impl Numbered for Plain {
+    type Numbers = i64;
+
+    type Meaning = i64;
+
+    fn of(picoseconds: i64) -> Plain {
+        Plain { picoseconds }
+    }
+
+    fn meaning(self) -> i64 {
+        self.picoseconds
+    }
 }
 
-fn picoseconds(value: Option<Plain>) -> Option<i64> {
-    Some(value?.picoseconds)
-}
-
-fn sums(rt: &impl Abort) {
+#[test]
+fn sums(rt: HostRuntime) {
     let cases = [
         (0, 0, Some(0)),
         (3, -4, Some(-1)),
@@ -37,12 +47,11 @@ fn sums(rt: &impl Abort) {
         ),
         (i64::MAX, -9_223_371_036_854_775_806, None),
     ];
-    for (number, other, sum) in cases {
-        assert_eq!(rt; picoseconds(plain(number).sum(plain(other))), sum);
-    }
+    check_sums::<Plain>(&rt, &cases);
 }
 
-fn opposites(rt: &impl Abort) {
+#[test]
+fn opposites(rt: HostRuntime) {
     let cases = [
         (0, Some(0)),
         (5, Some(-5)),
@@ -54,12 +63,11 @@ fn opposites(rt: &impl Abort) {
         (i64::MAX, None),
         (i64::MIN, None),
     ];
-    for (number, opposite) in cases {
-        assert_eq!(rt; picoseconds(plain(number).opposite()), opposite);
-    }
+    check_opposites::<Plain>(&rt, &cases);
 }
 
-fn comparisons(rt: &impl Abort) {
+#[test]
+fn comparisons(rt: HostRuntime) {
     let cases = [
         (3, 4, Ordering::Less),
         (4, 4, Ordering::Equal),
@@ -70,12 +78,11 @@ fn comparisons(rt: &impl Abort) {
         (i64::MAX, i64::MIN, Ordering::Greater),
         (i64::MIN, i64::MIN, Ordering::Equal),
     ];
-    for (number, other, order) in cases {
-        assert_eq!(rt; plain(number).compare(plain(other)), order);
-    }
+    check_comparisons::<Plain>(&rt, &cases);
 }
 
-fn limits(rt: &impl Abort) {
+#[test]
+fn limits(rt: HostRuntime) {
     let cases = [
         (0, 0, true),
         (1, 0, false),
@@ -89,12 +96,11 @@ fn limits(rt: &impl Abort) {
         (i64::MIN, 9_223_372_036_854_775_807, false),
         (i64::MIN, u64::MAX, true),
     ];
-    for (number, limit, within) in cases {
-        assert_eq!(rt; plain(number).within(limit), within);
-    }
+    check_limits::<Plain>(&rt, &cases);
 }
 
-fn reads(rt: &impl Abort) {
+#[test]
+fn reads(rt: HostRuntime) {
     let cases = [
         ("           0", Some(0)),
         ("          -7", Some(-7)),
@@ -113,43 +119,39 @@ fn reads(rt: &impl Abort) {
         ("            0", None),
         ("           0           0", None),
     ];
-    for (columns, number) in cases {
-        assert_eq!(rt;
-            picoseconds(Plain::read(columns.as_bytes())),
-            number,
-            "{}",
-            columns
-        );
-    }
-}
-
-fn writes(rt: &impl Abort) {
-    let cases = [
-        (0, Ok(()), "           0"),
-        (-7, Ok(()), "          -7"),
-        (99_999_999_999, Ok(()), " 99999999999"),
-        (-99_999_999_999, Ok(()), "-99999999999"),
-        (100_000_000_000, Err(Unwritten::TooLarge), "xxxxxxxxxxxx"),
-        (-100_000_000_000, Err(Unwritten::TooLarge), "xxxxxxxxxxxx"),
-        (i64::MAX, Err(Unwritten::TooLarge), "xxxxxxxxxxxx"),
-        (i64::MIN, Err(Unwritten::TooLarge), "xxxxxxxxxxxx"),
-        (0, Err(Unwritten::WrongWidth), ""),
-        (0, Err(Unwritten::WrongWidth), "xxxxxxxxxxx"),
-        (0, Err(Unwritten::WrongWidth), "xxxxxxxxxxxxx"),
-        (0, Err(Unwritten::WrongWidth), "xxxxxxxxxxxxxxxxxxxxxxxx"),
-        (i64::MAX, Err(Unwritten::WrongWidth), "xxxxxxxxxxx"),
-    ];
-    for (number, answer, after) in cases {
-        check_write(rt, plain(number), answer, after);
-    }
+    check_reads::<Plain>(&rt, &cases);
 }
 
 #[test]
-fn plain_time(rt: HostRuntime) {
-    sums(&rt);
-    opposites(&rt);
-    comparisons(&rt);
-    limits(&rt);
-    reads(&rt);
-    writes(&rt);
+fn writes(rt: HostRuntime) -> Result<(), Fail> {
+    let cases = [
+        (0, "           0"),
+        (-7, "          -7"),
+        (99_999_999_999, " 99999999999"),
+        (-99_999_999_999, "-99999999999"),
+    ];
+    check_writes::<Plain>(&rt, rt.alloc(), Ok(()), &cases)
+}
+
+#[test]
+fn refuses_large_numbers(rt: HostRuntime) -> Result<(), Fail> {
+    let cases = [
+        (100_000_000_000, "xxxxxxxxxxxx"),
+        (-100_000_000_000, "xxxxxxxxxxxx"),
+        (i64::MAX, "xxxxxxxxxxxx"),
+        (i64::MIN, "xxxxxxxxxxxx"),
+    ];
+    check_writes::<Plain>(&rt, rt.alloc(), Err(Unwritten::TooLarge), &cases)
+}
+
+#[test]
+fn refuses_other_widths(rt: HostRuntime) -> Result<(), Fail> {
+    let cases = [
+        (0, ""),
+        (0, "xxxxxxxxxxx"),
+        (0, "xxxxxxxxxxxxx"),
+        (0, "xxxxxxxxxxxxxxxxxxxxxxxx"),
+        (i64::MAX, "xxxxxxxxxxx"),
+    ];
+    check_writes::<Plain>(&rt, rt.alloc(), Err(Unwritten::WrongWidth), &cases)
 }

@@ -1,8 +1,9 @@
--- The numbers of causes and layers, and the layer of each cause. Assumes nothing.
+-- The numbers of causes and layers, the layer of each cause, and its words. Assumes nothing.
 --     cause_number c     the number by which a cause is told
 --     layer_number l     the number by which a layer is told
 --     layer_of c         the layer to which a cause belongs
-use Rattle.std.specs.Prelude.{ℕ}
+--     words c            what is wrong, in words
+use Rattle.std.specs.Prelude.{ℕ, List, codes}
 use Rattle.lines.specs.declared.cause.Cause.{Cause}
 use Rattle.lines.specs.declared.cause.Layer.{Layer}
 
@@ -26,3 +27,11 @@ layer_of Cause.Layout = Layer.Line
 layer_of Cause.Turn = Layer.Sheet
 layer_of Cause.Count = Layer.Sheet
 layer_of Cause.Field = Layer.Field
+
+abbrev pub words : Cause → List ℕ
+words Cause.Length = codes "the text has more than 32768 bytes"
+words Cause.Newline = codes "the last line lacks its newline"
+words Cause.Layout = codes "unknown letter, or columns not as laid out"
+words Cause.Turn = codes "line out of turn, or no N line"
+words Cause.Count = codes "the count of numbers is not the kind's"
+words Cause.Field = codes "a field is not a number"

@@ -1,6 +1,9 @@
-// Why a sheet cannot be read, by number, and the layer of the format to which each cause belongs.
-ghost use Rattle.std.specs.Prelude.{◌≡◌};
-ghost use Rattle.lines.specs.Causes.{cause_number, layer_number, layer_of};
+// Why a sheet cannot be read, by number and in words, and the layer of the format to which each cause belongs.
+ghost use Rattle.std.specs.Prelude.{◌≡◌, Some};
+ghost use Rattle.lines.specs.Causes.{cause_number, layer_number, layer_of, words};
+
+use std::error::Error;
+use std::fmt;
 
 #[derive(Clone, Copy, Debug, PartialEq, Eq)]
 pub enum Cause {
@@ -26,6 +29,7 @@ pub enum Layer {
 }
 
 impl Cause {
+    // A method and no `From`: at a fault, which has a cause and a layer, `u8::from` would not say which number is meant.
     pub fn number(self) -> u8
         ensures value { result ≡ cause_number self }
     {
@@ -43,7 +47,25 @@ impl Cause {
     }
 }
 
+impl fmt::Display for Cause {
+    ghost output = { λ c. Some (words c) };
+
+    fn fmt<W: fmt::Write>(&self, f: &mut fmt::Formatter<W>) -> fmt::Result {
+        f.write_str(match self {
+            Cause::Length => "the text has more than 32768 bytes",
+            Cause::Newline => "the last line lacks its newline",
+            Cause::Layout => "unknown letter, or columns not as laid out",
+            Cause::Turn => "line out of turn, or no N line",
+            Cause::Count => "the count of numbers is not the kind's",
+            Cause::Field => "a field is not a number",
+        })
+    }
+}
+
+impl Error for Cause {}
+
 impl Layer {
+    // A method, as for a cause.
     pub fn number(self) -> u8
         ensures value { result ≡ layer_number self }
     {

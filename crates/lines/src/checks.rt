@@ -8,14 +8,14 @@ use crate::cause::Cause;
 use crate::layout::taken_apart;
 use crate::line::{Letter, Line, RecordFields};
 use columns::Unread;
-use kinds::time::Written;
+use kinds::time::{Time, Written};
 
 fn in_turn(last: Option<Letter>, next: Letter) -> bool
     ensures { Decides result (InTurn last next) }
 {
     match last {
         None => next == Letter::N,
-        Some(last) => next != Letter::N && last as u8 <= next as u8,
+        Some(last) => next != Letter::N && last <= next,
     }
 }
 
@@ -23,42 +23,34 @@ fn is_number(columns: &[u8]) -> bool
     ensures { Decides result (Number columns.now) }
 {
     match columns::read(columns) {
-        Ok(_) => true,
-        Err(unread) => unread == Unread::TooLarge,
+        Ok(_) | Err(Unread::TooLarge) => true,
+        Err(Unread::NoNumber) => false,
     }
 }
 
 fn is_blank(columns: &[u8]) -> bool
     ensures { Decides result (columns.now ≡ replicate (length columns.now) 32) }
 {
-    for byte in columns {
-        if *byte != b' ' {
-            return false;
-        }
-    }
-    true
+    columns.iter().all(|byte| *byte == b' ')
 }
 
 fn is_end<T: Written>(columns: &[u8]) -> bool
-    ensures { Decides result (End T.Time.count columns.now) }
+    ensures { Decides result (End T.Time.COUNT columns.now) }
 {
     is_blank(columns) || T::read(columns).is_some()
 }
 
 fn are_record_numbers<T: Written>(fields: &RecordFields) -> bool
-    ensures { Decides result (RecordNumbers T.Time.count fields.now) }
+    ensures { Decides result (RecordNumbers T.Time.COUNT fields.now) }
 {
-    if !is_number(fields.first) {
-        return false;
-    }
-    if !is_number(fields.second) {
-        return false;
-    }
-    is_end::<T>(fields.low) && is_end::<T>(fields.high)
+    is_number(fields.first)
+        && is_number(fields.second)
+        && is_end::<T>(fields.low)
+        && is_end::<T>(fields.high)
 }
 
 fn are_numbers<T: Written>(line: &Line) -> bool
-    ensures { Decides result (Numbers T.Time.count line.now) }
+    ensures { Decides result (Numbers T.Time.COUNT line.now) }
 {
     match line {
         Line::Pins { pins, count, .. } => is_number(pins) && is_number(count),
@@ -69,22 +61,17 @@ fn are_numbers<T: Written>(line: &Line) -> bool
     }
 }
 
-fn is_count(columns: &[u8], numbers: usize) -> bool
-    requires { numbers ≤ 4 }
-    ensures { Decides result (Shows columns.now (pos numbers)) }
+fn is_count<T: Time>(columns: &[u8]) -> bool
+    ensures { Decides result (Shows columns.now (pos T.COUNT)) }
 {
-    match columns::read(columns) {
-        Ok(number) => number == numbers as i64,
-        Err(_) => false,
-    }
+    columns::read(columns) == Ok(T::COUNT as i64)
 }
 
-fn has_own_count(line: &Line, numbers: usize) -> bool
-    requires { numbers ≤ 4 }
-    ensures { Decides result (OwnCount numbers line.now) }
+fn has_own_count<T: Time>(line: &Line) -> bool
+    ensures { Decides result (OwnCount T.COUNT line.now) }
 {
     match line {
-        Line::Pins { count, .. } => is_count(count, numbers),
+        Line::Pins { count, .. } => is_count::<T>(count),
         Line::Name { .. } | Line::Constraint { .. } | Line::Commit { .. } => true,
     }
 }
@@ -95,19 +82,16 @@ pub fn checked_line<T: Written>(
     line: usize,
     last: Option<Letter>,
 ) -> Result<Line<'_>, Cause>
-    ensures checked { Checked T.Time.count last line bytes.now result }
+    ensures checked { Checked T.Time.COUNT last line bytes.now result }
 {
-    let numbers = T::numbers();
-    let Some(taken) = taken_apart(bytes, line, numbers) else {
-        return Err(Cause::Layout);
-    };
+    let taken = taken_apart::<T>(bytes, line).ok_or(Cause::Layout)?;
     if !in_turn(last, taken.letter()) {
         return Err(Cause::Turn);
     }
     if !are_numbers::<T>(&taken) {
         return Err(Cause::Field);
     }
-    if !has_own_count(&taken, numbers) {
+    if !has_own_count::<T>(&taken) {
         return Err(Cause::Count);
     }
     Ok(taken)

@@ -3,17 +3,16 @@ ghost use Rattle.std.specs.Prelude.{◌≡◌, ◌≤◌};
 ghost use Rattle.lines.specs.Lines.{Apart, LettersApart, RecordApart};
 
 use crate::line::{Line, RecordFields};
-use kinds::time::FIELD;
+use kinds::time::{FIELD, Time};
 
 // How many columns a pin has, and each number of an N line.
 const PIN: usize = 4;
 
 // The fields of an R or C line, from what follows its letter.
-fn record_fields(rest: &[u8], numbers: usize) -> Option<RecordFields<'_>>
-    requires { numbers ≤ 4 }
-    ensures { RecordApart numbers rest.now result }
+fn record_fields<T: Time>(rest: &[u8]) -> Option<RecordFields<'_>>
+    ensures { RecordApart T.COUNT rest.now result }
 {
-    let end = FIELD * numbers;
+    let end = FIELD * T::COUNT;
     if rest.len() != 2 * PIN + 2 * end {
         return None;
     }
@@ -43,30 +42,26 @@ fn pins_line(rest: &[u8], line: usize) -> Option<Line<'_>>
 fn name_line(rest: &[u8], line: usize) -> Option<Line<'_>>
     ensures { LettersApart 80 line rest.now result }
 {
-    if rest.len() < PIN {
-        return None;
-    }
-    let (pin, after) = rest.split_at(PIN);
+    let (pin, after) = rest.split_at_checked(PIN)?;
     match after {
         [b' ', name @ ..] => Some(Line::Name { line, pin, name }),
         _ => None,
     }
 }
 
-pub(crate) fn taken_apart(bytes: &[u8], line: usize, numbers: usize) -> Option<Line<'_>>
-    requires { numbers ≤ 4 }
-    ensures { Apart numbers line bytes.now result }
+pub(crate) fn taken_apart<T: Time>(bytes: &[u8], line: usize) -> Option<Line<'_>>
+    ensures { Apart T.COUNT line bytes.now result }
 {
     match bytes {
         [b'N', rest @ ..] => pins_line(rest, line),
         [b'P', rest @ ..] => name_line(rest, line),
         [b'R', rest @ ..] => Some(Line::Constraint {
             line,
-            fields: record_fields(rest, numbers)?,
+            fields: record_fields::<T>(rest)?,
         }),
         [b'C', rest @ ..] => Some(Line::Commit {
             line,
-            fields: record_fields(rest, numbers)?,
+            fields: record_fields::<T>(rest)?,
         }),
         _ => None,
     }

@@ -3,7 +3,7 @@ ghost use Rattle.std.specs.Prelude.{◌≡◌};
 ghost use Rattle.lines.specs.Lines.{letter};
 
 // The letter with which a line begins, in the order in which a sheet has them.
-#[derive(Clone, Copy, Debug, PartialEq, Eq)]
+#[derive(Clone, Copy, Debug, PartialEq, Eq, PartialOrd, Ord)]
 pub enum Letter {
     N,
     P,
@@ -19,6 +19,7 @@ pub struct RecordFields<'a> {
     pub high: &'a [u8],
 }
 
+// The number stands in each case: a line is told by its case alone, its number and parts together.
 #[derive(Clone, Copy)]
 pub enum Line<'a> {
     // N: how many pins there are, and how many numbers make up a value.

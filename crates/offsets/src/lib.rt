@@ -7,11 +7,8 @@ ghost use Rattle.offsets.specs.Offsets.{whole, row, Gives};
 ghost use Rattle.std.proofs.Common.{rules};
 
 use kinds::plain::Plain;
-use kinds::time::{Time, Unwritten, Written};
+use kinds::time::{MOST, Time, Unwritten, Written};
 use std::cmp::Ordering;
-
-// The largest size of a sum or an opposite.
-const MOST: u128 = 1_000_000_000_000;
 
 // The offset of a sum or an opposite: such a value is then seldom the one that a test would write down.
 const APART: i64 = 1;
@@ -22,17 +19,20 @@ pub struct Offset {
     pub offset: i64,
 }
 
-// The number that a value means may lie beyond 64 bits.
-fn exact(value: Offset) -> i128
-    ensures value { result ≡ whole value }
-{
-    i128::from(value.number) + i128::from(value.offset)
+// The number that a value means, which may lie beyond 64 bits.
+impl From<Offset> for i128 {
+    ghost from_gives = { λ value number. number ≡ whole value };
+
+    fn from(value: Offset) -> i128 {
+        i128::from(value.number) + i128::from(value.offset)
+    }
 }
 
+// A sum or an opposite is absent and has no error, so this is no `TryFrom`.
 fn given(number: i128) -> Option<Offset>
     ensures value { Gives number result }
 {
-    if number.unsigned_abs() > MOST {
+    if number.unsigned_abs() > u128::from(MOST.unsigned_abs()) {
         return None;
     }
     Some(Offset {
@@ -44,15 +44,11 @@ fn given(number: i128) -> Option<Offset>
 impl Time for Offset {
     const COUNT: usize = 1;
 
-    ghost count = { 1 };
+    ghost COUNT = { 1 };
 
     ghost row = { row };
 
     ghost counted = { Prim.search rules };
-
-    fn numbers() -> usize {
-        Self::COUNT
-    }
 
     fn zero() -> Offset {
         Offset {
@@ -62,19 +58,19 @@ impl Time for Offset {
     }
 
     fn sum(self, other: Offset) -> Option<Offset> {
-        given(exact(self) + exact(other))
+        given(i128::from(self) + i128::from(other))
     }
 
     fn opposite(self) -> Option<Offset> {
-        given(-exact(self))
+        given(-i128::from(self))
     }
 
     fn compare(self, other: Offset) -> Ordering {
-        exact(self).cmp(&exact(other))
+        i128::from(self).cmp(&i128::from(other))
     }
 
     fn within(self, limit: u64) -> bool {
-        exact(self).unsigned_abs() <= u128::from(limit)
+        i128::from(self).unsigned_abs() <= u128::from(limit)
     }
 }
 

@@ -1,7 +1,9 @@
 // A program's whole answer as a value, and its delivery.
+ghost use Rattle.std.specs.Prelude.{OnOk, string_bytes};
+ghost use Rattle.std.specs.Io.KnownBytes.{Appends};
 ghost use Rattle.programs.specs.Answers.{Delivered};
 
-use anyhow::anyhow;
+use anyhow::bail;
 use std::io::Write;
 
 #[derive(Drop)]
@@ -21,11 +23,13 @@ pub fn deliver<O: Write, E: Write>(
     errors: &mut E,
 ) -> anyhow::Result<()>
     ensures test { Delivered answer.now result }
+    ensures output { OnOk result (Appends (O.contents output.old) (O.contents output.new) answer.now.output.items) }
+    ensures words { OnOk result (Appends (E.contents errors.old) (E.contents errors.new) (string_bytes answer.now.words)) }
 {
     output.write_all(answer.output.as_slice())?;
     errors.write_all(answer.words.as_bytes())?;
     if answer.failed {
-        return Err(anyhow!("the program ends in an error"));
+        bail!("the program ends in an error");
     }
     Ok(())
 }

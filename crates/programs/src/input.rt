@@ -1,40 +1,27 @@
 // A program's input, of which no more is kept than tells that it is above a limit.
-ghost use Rattle.std.specs.Prelude.{◌≡◌, ◌+◌, ◌≤◌, ◌++◌, IfOk, vec_len, OnOk};
-ghost use Rattle.programs.specs.Inputs.{kept, Within, ReadFor};
+ghost use Rattle.std.specs.Prelude.{◌≡◌, IfOk, IfSome, OnOk};
+ghost use Rattle.std.specs.Io.KnownBytes.{IsAtEnd};
+ghost use Rattle.programs.specs.Inputs.{kept, kept_for, Within, ReadFor, Left};
 
 use crate::request::Request;
-use std::alloc::{AllocError, Global};
+use std::alloc::Global;
 use std::io;
-use std::io::{ErrorKind, Read};
-
-const PART: usize = 4096;
-
-// Adds what was read, up to one byte more than the limit.
-fn keep(text: &mut Vec<u8>, more: &[u8], limit: u32) -> Result<(), AllocError>
-    requires within { vec_len text.old ≤ limit + 1 }
-    ensures items { OnOk result (text.new.items ≡ kept limit (text.old.items ++ more.now)) }
-    ensures bound { vec_len text.new ≤ limit + 1 }
-{
-    let room = limit as usize + 1 - text.len();
-    text.extend_from_slice(&more[..room.min(more.len())])
-}
+use std::io::Read;
 
 // Reads to the end, so that what writes the input is not cut off.
+#[tactic(auto, using(crate::proofs::Keeping::kept_first))]
 pub fn read_limited<R: Read>(source: &mut R, limit: u32, heap: Global) -> io::Result<Vec<u8>>
     ensures bound { IfOk result (λ v. Within limit v.items) }
+    ensures first { IfOk result (λ v. IfSome (R.remaining source.old) (λ bytes. v.items ≡ kept limit bytes)) }
+    ensures at_end { OnOk result (IsAtEnd (R.remaining source.new)) }
 {
+    let most = limit as usize + 1;
     let mut text = Vec::new(heap);
-    for _ in 0..u64::MAX {
-        let mut part = [0u8; PART];
-        match source.read(&mut part) {
-            Ok(0) => return Ok(text),
-            Ok(count) => keep(&mut text, &part[..count], limit)?,
-            // A signal came before a byte did, which is no end.
-            Err(error) if error.kind() == ErrorKind::Interrupted => {}
-            Err(error) => return Err(error),
-        }
-    }
-    Err(io::Error::from(ErrorKind::TimedOut))
+    (&mut *source).take(most as u64).read_to_end(&mut text)?;
+    // `take` gave no more already, but no clause says so of a source whose bytes are not known.
+    text.truncate(most);
+    io::copy(source, &mut io::sink())?;
+    Ok(text)
 }
 
 // Only a run reads its input.
@@ -45,6 +32,8 @@ pub fn read_for<R: Read>(
     heap: Global,
 ) -> io::Result<Vec<u8>>
     ensures bound { IfOk result (λ v. ReadFor request limit v.items) }
+    ensures first { IfOk result (λ v. IfSome (R.remaining source.old) (λ bytes. v.items ≡ kept_for request limit bytes)) }
+    ensures left { OnOk result (Left request (R.remaining source.old) (R.remaining source.new)) }
 {
     match request {
         Request::Run(_) => read_limited(source, limit, heap),

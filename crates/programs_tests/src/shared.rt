@@ -5,16 +5,15 @@ use programs::request::{Kind, Request, asked};
 use std::alloc::{AllocError, Global};
 use std::io;
 use std::io::{ErrorKind, Read, Write};
-use std::process::Abort;
 use std::test::Fail;
 
 const LIMIT: u32 = 32_768;
 
 fn asked_of(heap: Global, words: &[&str]) -> Result<Request, AllocError> {
-    let mut all = Vec::new(heap);
-    for word in words {
-        all.push(String::from_str(heap, word)?)?;
-    }
+    let all: Vec<String> = words
+        .iter()
+        .map(|word| String::from_str(heap, word))
+        .try_collect(heap)?;
     Ok(asked(all.as_slice()))
 }
 
@@ -53,35 +52,31 @@ fn other_words_are_not_understood(rt: HostRuntime) -> Result<(), Fail> {
 }
 
 fn bytes(heap: Global, count: usize) -> Result<Vec<u8>, AllocError> {
-    let mut all = Vec::new(heap);
-    for i in 0..count {
-        all.push((i % 251) as u8)?;
-    }
-    Ok(all)
+    (0..count).map(|i| (i % 251) as u8).collect(heap)
 }
 
 // The source is read to its end, and its first bytes are kept, as many as told.
-fn check_kept(rt: &impl Abort, heap: Global, count: usize, kept: usize) -> Result<(), Fail> {
-    let text = bytes(heap, count)?;
-    let mut source = text.as_slice();
-    let read = read_limited(&mut source, LIMIT, heap)?;
-    assert_eq!(rt; source.len(), 0, "what is left of the source");
-    assert!(rt;
-        read.as_slice() == bytes(heap, kept)?.as_slice(),
-        "{}",
-        count
-    );
-    Ok(())
-}
-
 #[test]
 fn input_is_kept_up_to_the_limit_and_one(rt: HostRuntime) -> Result<(), Fail> {
     let heap = rt.alloc();
-    check_kept(&rt, heap, 0, 0)?;
-    check_kept(&rt, heap, 1, 1)?;
-    check_kept(&rt, heap, 32_768, 32_768)?;
-    check_kept(&rt, heap, 32_769, 32_769)?;
-    check_kept(&rt, heap, 40_000, 32_769)
+    for (count, kept) in [
+        (0, 0),
+        (1, 1),
+        (32_768, 32_768),
+        (32_769, 32_769),
+        (40_000, 32_769),
+    ] {
+        let text = bytes(heap, count)?;
+        let mut source = text.as_slice();
+        let read = read_limited(&mut source, LIMIT, heap)?;
+        assert_eq!(rt; source.len(), 0, "what is left of the source");
+        assert!(rt;
+            read.as_slice() == bytes(heap, kept)?.as_slice(),
+            "{}",
+            count
+        );
+    }
+    Ok(())
 }
 
 // Gives three bytes at a time, and is interrupted before each.
@@ -119,11 +114,11 @@ fn an_interrupted_source_is_read_on(rt: HostRuntime) -> Result<(), Fail> {
 fn only_a_run_reads(rt: HostRuntime) -> Result<(), Fail> {
     let heap = rt.alloc();
     let mut source = b"abc".as_slice();
-    let none = read_for(Request::Help, &mut source, LIMIT, heap)?;
-    assert_eq!(rt; none.len(), 0);
-    let none = read_for(Request::NotUnderstood, &mut source, LIMIT, heap)?;
-    assert_eq!(rt; none.len(), 0);
-    assert_eq!(rt; source.len(), 3);
+    for request in [Request::Help, Request::NotUnderstood] {
+        let none = read_for(request, &mut source, LIMIT, heap)?;
+        assert_eq!(rt; none.len(), 0);
+        assert_eq!(rt; source.len(), 3);
+    }
     let all = read_for(Request::Run(Kind::Plain), &mut source, LIMIT, heap)?;
     assert!(rt; all.as_slice() == b"abc".as_slice());
     Ok(())
@@ -182,8 +177,10 @@ fn an_answer_is_delivered_whole(rt: HostRuntime) -> Result<(), Fail> {
 fn what_cannot_be_written_is_an_error(rt: HostRuntime) -> Result<(), Fail> {
     let heap = rt.alloc();
     let answer = answer(heap, false)?;
-    assert!(rt; deliver(&answer, &mut with_room(heap, 11), &mut with_room(heap, 5)).is_ok());
-    assert!(rt; deliver(&answer, &mut with_room(heap, 10), &mut with_room(heap, 5)).is_err());
-    assert!(rt; deliver(&answer, &mut with_room(heap, 11), &mut with_room(heap, 4)).is_err());
+    for (output, errors, fits) in [(11, 5, true), (10, 5, false), (11, 4, false)] {
+        let mut output = with_room(heap, output);
+        let mut errors = with_room(heap, errors);
+        assert_eq!(rt; deliver(&answer, &mut output, &mut errors).is_ok(), fits);
+    }
     Ok(())
 }

@@ -28,13 +28,13 @@ pub record Sofar (k : ℕ) (start s : Reader) (sum : Summary) : Type 0 where
   pub counted : Counted ls sum
 
 -- before the first line
-pub sofar_none : (k : ℕ) (text : List ℕ) (s : Reader) → Begun text s → Sofar k s s (record { pins = pos 0; names = 0; constraints = 0; commits = 0 })
-sofar_none k text s begun = record {
+pub sofar_none : (k : ℕ) (text : List ℕ) (s : Reader) (sum : Summary) → Begun text s → (sum.pins ≡ pos 0) × ((sum.names ≡ 0) × ((sum.constraints ≡ 0) × (sum.commits ≡ 0))) → Sofar k s s sum
+sofar_none k text s sum begun zeros = record {
   ls = [];
   reading = λ ms f r. r;
   numbered = begun.number;
   first = λ _. refl;
-  counted = record { pins = tt; names = refl; constraints = refl; commits = refl };
+  counted = record { pins = tt; names = zeros.1.0; constraints = zeros.1.1.0; commits = zeros.1.1.1 };
 }
 
 -- an N line comes before any other

@@ -1,7 +1,7 @@
 -- What a reader answers, and where it then stands. Assumes nothing.
 --     Begun whole s          the reader s stands at the start of the whole text
 --     rest s                 what the reader has not read yet
---     Before s r             r is the fault of the text as a whole, which comes before any line; absent where it has none
+--     Before s r             r is the fault of the text as a whole, which comes before any line, or that it has none
 --     Ahead s bytes          the next line of what is left
 --     HandsOut k s t line    the reader s hands out its next line, and is then t
 --     Stops k s f            the reader s meets the fault f at its next line
@@ -26,9 +26,9 @@ pub record Begun (whole : List ℕ) (s : Reader) : Type 0 where
 abbrev pub rest : Reader → List ℕ
 rest s = drop s.place s.text.now
 
-abbrev pub Before : Reader → Option Fault → Type 0
-Before s None = Fit s.text.now
-Before s (Some f) = (s.place ≡ 0) × UnfitBy s.text.now f.cause f.line
+abbrev pub Before : Reader → Result (Unit {0}) Fault → Type 0
+Before s (Ok _) = Fit s.text.now
+Before s (Err f) = (s.place ≡ 0) × UnfitBy s.text.now f.cause f.line
 
 pub record Ahead (s : Reader) (bytes : List ℕ) : Type 0 where
   pub fit : Fit s.text.now
@@ -54,7 +54,7 @@ pub record Stops (k : ℕ) (s : Reader) (f : Fault) : Type 0 where
 abbrev pub Next : ℕ → Reader → Reader → Result (Option Line) Fault → Type 0
 Next k s t (Ok None) = Fit s.text.now × (rest s ≡ []) × (t ≡ s)
 Next k s t (Ok (Some line)) = HandsOut k s t line
-Next k s t (Err f) = (Before s (Some f) ⊎ Stops k s f) × (t ≡ s)
+Next k s t (Err f) = (Before s (Err f) ⊎ Stops k s f) × (t ≡ s)
 
 pub data Reading (k : ℕ) : Reader → List Line → Option Fault → Type 0 where
   comes_to_end : (s t : Reader) → Next k s t (Ok None) → Reading k s [] None

@@ -6,7 +6,9 @@
 --     Few s                      the counts can go up by one
 --     Noted line before after    `after` counts one line more than `before`
 --     Surveyed k text r          r counts the lines of the sheet, or is its first fault
-use Rattle.std.specs.Prelude.{◌≡◌, ℕ, ◌+◌, ◌<◌, Bool, cond, List, ℤ, Some, None, Ok, Err, count_by, Result, FitsSigned, ◌==◌}
+--     summary_text s             the four numbers, each on a line of its own behind its name
+use Rattle.std.specs.Prelude.{◌≡◌, ℕ, ◌+◌, ◌<◌, Bool, cond, List, ◌++◌, ℤ, codes, Some, None, Ok, Err, count_by, Result, FitsSigned, ◌==◌}
+use Rattle.std.specs.Fmt.{decimal, signed_decimal}
 use Rattle.std.specs.Int.{w64}
 use Rattle.columns.specs.Columns.{Shows}
 use Rattle.lines.specs.Lines.{letter, rank}
@@ -59,3 +61,6 @@ pub record Noted (line : Line) (before after : Summary) : Type 0 where
 abbrev pub Surveyed : ℕ → List ℕ → Result Summary Fault → Type 0
 Surveyed k text (Ok s) = (ls : List Line) × Told k text ls None × Counted ls s
 Surveyed k text (Err f) = (ls : List Line) × Told k text ls (Some f)
+
+abbrev pub summary_text : Summary → List ℕ
+summary_text s = codes "pins " ++ (signed_decimal s.pins ++ (codes "\nnames " ++ (decimal s.names ++ (codes "\nconstraints " ++ (decimal s.constraints ++ (codes "\ncommits " ++ decimal s.commits))))))

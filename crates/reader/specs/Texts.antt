@@ -4,12 +4,12 @@
 --     Ended text                the last byte is a byte 10
 --     Fit text                  the text as a whole may be read line by line
 --     UnfitBy text c n          the cause c of the text as a whole, told with the line number n
---     Unfit text r              r is the fault of the text as a whole, absent where it is fit
+--     Unfit text r              r is the fault of the text as a whole, or that it is fit
 --     OneLine bytes             no byte is a byte 10
---     FirstNewline text from r  r is the place of the first byte 10 from the place `from` on
+--     FirstNewline text r       r is the place of the first byte 10, counted from 0, absent where there is none
 --     with_newline bytes        a line and the byte 10 that ends it
 --     Lines text lines          the text is these lines, each ended by a byte 10
-use Rattle.std.specs.Prelude.{◌≡◌, ℕ, ◌+◌, ◌-◌, ◌<◌, ◌≤◌, List, [], ◌∷◌, ◌++◌, length, Some, None, count_by, Option, ◌≢◌, nat_eq, slice_index, slice_index_or}
+use Rattle.std.specs.Prelude.{◌≡◌, ℕ, ◌+◌, ◌-◌, ◌<◌, ◌≤◌, List, [], ◌∷◌, ◌++◌, length, take, Some, None, Ok, Err, count_by, Option, Result, ◌≢◌, nat_eq, slice_index}
 use Rattle.lines.specs.declared.cause.Cause.{Cause}
 use Rattle.reader.specs.declared.fault.Fault.{Fault}
 use Rattle.std.specs.List.{flat_map, AllByRecursion}
@@ -37,18 +37,21 @@ UnfitBy text Cause.Turn n = (length text ≡ 0) × (n ≡ 1)
 UnfitBy text Cause.Count n = ⊥
 UnfitBy text Cause.Field n = ⊥
 
-abbrev pub Unfit : List ℕ → Option Fault → Type 0
-Unfit text None = Fit text
-Unfit text (Some f) = UnfitBy text f.cause f.line
+abbrev pub Unfit : List ℕ → Result (Unit {0}) Fault → Type 0
+Unfit text (Ok _) = Fit text
+Unfit text (Err f) = UnfitBy text f.cause f.line
 
 abbrev pub OneLine : List ℕ → Type 0
 OneLine bytes = (i : ℕ) → i < length bytes → slice_index bytes i ≢ 10
 
-pub record FirstNewline (text : List ℕ) (from r : ℕ) : Type 0 where
-  pub forward : from ≤ r
+pub record NewlineAt (text : List ℕ) (r : ℕ) : Type 0 where
   pub within : r < length text
-  pub here : slice_index_or text r 0 ≡ 10
-  pub before : (i : ℕ) → from ≤ i → i < r → slice_index text i ≢ 10
+  pub here : slice_index text r ≡ 10
+  pub before : OneLine (take r text)
+
+abbrev pub FirstNewline : List ℕ → Option ℕ → Type 0
+FirstNewline text None = OneLine text
+FirstNewline text (Some r) = NewlineAt text r
 
 abbrev pub with_newline : List ℕ → List ℕ
 with_newline bytes = bytes ++ (10 ∷ [])

@@ -1,10 +1,11 @@
 // A fault of a sheet: its cause, and the number of the line that shows it.
-ghost use Rattle.std.specs.Prelude.{◌≡◌, ◌+◌, ◌^◌, ◌<◌, ◌≤◌, length, pos};
-ghost use Rattle.columns.specs.Columns.{Set};
-ghost use Rattle.reader.specs.Faults.{WritesFault};
+ghost use Rattle.std.specs.Prelude.{Some};
+ghost use Rattle.reader.specs.Faults.{WritesFault, fault_words};
 
 use columns::NoRoom;
 use lines::cause::Cause;
+use std::error::Error;
+use std::fmt;
 
 // How many bytes an E line has, and the greatest line number that it can show.
 const WIDTH: usize = 15;
@@ -17,16 +18,6 @@ pub struct Fault {
     pub line: usize,
 }
 
-// Writes a number that has room in its columns.
-fn put(number: usize, bytes: &mut [u8], start: usize, width: usize)
-    requires within { start + width ≤ length bytes.old }
-    requires small { number ≤ 999_999 }
-    requires fits { (0 < width) × (number < 10 ^ width) }
-    ensures { Set (pos number) start width bytes.old bytes.new }
-{
-    let _ = columns::write_at(number as i64, bytes, start, width);
-}
-
 impl Fault {
     // Writes the E line, without its newline; where it has no room, the bytes stay.
     pub fn write(&self, bytes: &mut [u8]) -> Result<(), NoRoom>
@@ -36,9 +27,19 @@ impl Fault {
             return Err(NoRoom);
         }
         bytes[0] = b'E';
-        put(usize::from(self.cause.layer().number()), bytes, 1, 4);
-        put(usize::from(self.cause.number()), bytes, 5, 4);
-        put(self.line, bytes, 9, 6);
+        columns::write_at(i64::from(self.cause.layer().number()), bytes, 1, 4)?;
+        columns::write_at(i64::from(self.cause.number()), bytes, 5, 4)?;
+        columns::write_at(self.line as i64, bytes, 9, 6)?;
         Ok(())
     }
 }
+
+impl fmt::Display for Fault {
+    ghost output = { λ fault. Some (fault_words fault) };
+
+    fn fmt<W: fmt::Write>(&self, f: &mut fmt::Formatter<W>) -> fmt::Result {
+        write!(f, "line {}: {}", self.line, self.cause)
+    }
+}
+
+impl Error for Fault {}

@@ -1,15 +1,16 @@
 // What a sheet holds, in numbers.
-ghost use Rattle.std.specs.Prelude.{◌≡◌, ℤ, FitsSigned};
+ghost use Rattle.std.specs.Prelude.{◌≡◌, ℤ, Some, FitsSigned};
 ghost use Rattle.std.specs.Int.{w64};
 ghost use Rattle.columns.specs.Columns.{Shows};
-ghost use Rattle.reader.specs.Summaries.{Few, Noted, Surveyed};
+ghost use Rattle.reader.specs.Summaries.{Few, Noted, Surveyed, summary_text};
 
 use crate::fault::Fault;
 use crate::reader::Reader;
 use kinds::time::Written;
 use lines::line::Line;
+use std::fmt;
 
-#[derive(Clone, Copy, Debug, PartialEq, Eq)]
+#[derive(Clone, Copy, Debug, Default, PartialEq, Eq)]
 pub struct Summary {
     // The number on the N line.
     pub pins: i64,
@@ -19,37 +20,46 @@ pub struct Summary {
     pub commits: usize,
 }
 
+impl fmt::Display for Summary {
+    ghost output = { λ s. Some (summary_text s) };
+
+    fn fmt<W: fmt::Write>(&self, f: &mut fmt::Formatter<W>) -> fmt::Result {
+        write!(
+            f,
+            "pins {}\nnames {}\nconstraints {}\ncommits {}",
+            self.pins, self.names, self.constraints, self.commits
+        )
+    }
+}
+
 fn number_of(columns: &[u8]) -> i64
     ensures { (z : ℤ) → Shows columns.now z → FitsSigned w64 z → result ≡ z }
 {
     columns::read(columns).unwrap_or(0)
 }
 
-fn note(summary: &mut Summary, line: &Line)
-    requires { Few summary.old }
-    ensures { Noted line.now summary.old summary.new }
-{
-    match line {
-        Line::Pins { pins, .. } => summary.pins = number_of(pins),
-        Line::Name { .. } => summary.names += 1,
-        Line::Constraint { .. } => summary.constraints += 1,
-        Line::Commit { .. } => summary.commits += 1,
+impl Summary {
+    fn note(&mut self, line: &Line)
+        requires { Few self.old }
+        ensures { Noted line.now self.old self.new }
+    {
+        match line {
+            Line::Pins { pins, .. } => self.pins = number_of(pins),
+            Line::Name { .. } => self.names += 1,
+            Line::Constraint { .. } => self.constraints += 1,
+            Line::Commit { .. } => self.commits += 1,
+        }
     }
 }
 
 // The counts of a sheet's lines, or its first fault.
 pub fn survey<T: Written>(text: &[u8]) -> Result<Summary, Fault>
-    ensures sheet { Surveyed T.Time.count text.now result }
+    ensures sheet { Surveyed T.Time.COUNT text.now result }
 {
     let mut reader = Reader::new(text);
-    let mut summary = Summary {
-        pins: 0,
-        names: 0,
-        constraints: 0,
-        commits: 0,
-    };
+    let mut summary = Summary::default();
     while let Some(line) = reader.next_line::<T>()? {
-        note(&mut summary, &line);
+        summary.note(&line);
     }
     Ok(summary)
 }

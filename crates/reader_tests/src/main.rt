@@ -4,7 +4,7 @@
 
 mod escapes;
 
-use anyhow::{Context, anyhow};
+use anyhow::Context;
 use kinds::guarded::Guarded;
 use kinds::plain::Plain;
 use kinds::time::Written;
@@ -25,18 +25,18 @@ fn survey_as(kind: &str, text: &[u8]) -> Option<Result<Summary, Fault>> {
 }
 
 fn print_summary(rt: &HostRuntime, summary: &Summary) -> io::Result<()> {
-    let pins = summary.pins;
-    let names = summary.names;
-    let constraints = summary.constraints;
-    let commits = summary.commits;
+    let Summary {
+        pins,
+        names,
+        constraints,
+        commits,
+    } = summary;
     println!(rt; "pins {pins} names {names} constraints {constraints} commits {commits}")
 }
 
 fn print_fault(rt: &HostRuntime, fault: &Fault) -> anyhow::Result<()> {
     let mut line = [0; 15];
-    if fault.write(&mut line).is_err() {
-        return Err(anyhow!("a fault has no room"));
-    }
+    fault.write(&mut line)?;
     rt.stdout().write_all(&line)?;
     rt.stdout().write_all(b"\n")?;
     Ok(())
@@ -52,36 +52,21 @@ fn run_case(rt: &HostRuntime, case: &str) -> anyhow::Result<()> {
 }
 
 // A fault that has no room is not told, and the bytes stay.
-fn run_refusals(rt: &HostRuntime) -> io::Result<()> {
-    for line in [1_000_000, usize::MAX] {
-        let mut bytes = [b'x'; 15];
-        print_refusal(rt, line, &mut bytes)?;
-    }
-    let mut narrow = [b'x'; 14];
-    print_refusal(rt, 1, &mut narrow)?;
-    let mut wide = [b'x'; 16];
-    print_refusal(rt, 1, &mut wide)
-}
-
-fn print_refusal(rt: &HostRuntime, line: usize, bytes: &mut [u8]) -> io::Result<()> {
-    let refused = Fault {
-        cause: Cause::Turn,
-        line,
-    }
-    .write(bytes)
-    .is_err();
-    rt.stdout().write_all(bytes)?;
-    println!(rt; " refused {refused}")
-}
-
-fn run(rt: &HostRuntime) -> anyhow::Result<()> {
-    run_refusals(rt)?;
-    for case in BufReader::new(rt.alloc(), rt.stdin())?.lines(rt.alloc()) {
-        run_case(rt, case?.as_str())?;
+fn print_refusals(rt: &HostRuntime) -> anyhow::Result<()> {
+    for (line, width) in [(1_000_000, 15), (usize::MAX, 15), (1, 14), (1, 16)] {
+        let cause = Cause::Turn;
+        let mut bytes = vec![in rt.alloc(); b'x'; width]?;
+        let refused = Fault { cause, line }.write(&mut bytes).is_err();
+        rt.stdout().write_all(&bytes)?;
+        println!(rt; " refused {refused}")?;
     }
     Ok(())
 }
 
 fn main(rt: HostRuntime) -> anyhow::Result<()> {
-    run(&rt)
+    print_refusals(&rt)?;
+    for case in BufReader::new(rt.alloc(), rt.stdin())?.lines(rt.alloc()) {
+        run_case(&rt, case?.as_str())?;
+    }
+    Ok(())
 }

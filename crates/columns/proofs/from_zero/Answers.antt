@@ -1,5 +1,5 @@
-use Rattle.std.proofs.Common.{pos, refl}
+use Rattle.columns.proofs.Reading.{names_fitting}
 use Rattle.columns.proofs.from_zero.Goals as goal
 
-pub returns-in-Err : goal.returns-in-Err
-returns-in-Err c = (pos c.args.magnitude, refl, c.in-Err.ensures)
+pub returns : goal.returns
+returns c = rw c.or.ensures (names_fitting _ _ c.try_from.ensures)

@@ -13,10 +13,3 @@ pub returns-in_err-magnitude-in_default : goal.returns-in_err-magnitude-in_defau
 returns-in_err-magnitude-in_default c =
     let p = err_from_is_err_and c.from_residual-in_err-magnitude-in_default.result c.from_residual-in_err-magnitude-in_default.ensures.1 in
     rw (p.1, p.2) (names_plain _ _ (λ dash. grind (arith, ltb-true, some_from_first c.args.text.now (omega arith))) c.in_err-magnitude-in_default.ensures)
-
-pub returns-in_ok-magnitude-in-45 : goal.returns-in_ok-magnitude-in-45
-returns-in_ok-magnitude-in-45 c =
-    rw (cons_from_first c.args.text.now 45 (omega arith) (omega arith), c.in_ok-magnitude-in-45.ensures) c.below_zero.ensures
-
-pub returns-in_ok-magnitude-in_default : goal.returns-in_ok-magnitude-in_default
-returns-in_ok-magnitude-in_default c = rw c.in_ok-magnitude-in_default.ensures c.from_zero.ensures

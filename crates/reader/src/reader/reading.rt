@@ -1,7 +1,7 @@
 // How a reader begins, and hands out one line after the other.
-ghost use Rattle.std.specs.Prelude.{◌≡◌, ◌<◌, length};
+ghost use Rattle.std.specs.Prelude.{◌≡◌};
 ghost use Rattle.reader.specs.Readings.{Before, Begun, Next, TellsTheSheet};
-ghost use Rattle.reader.specs.Texts.{Ended, FirstNewline, newlines, Unfit};
+ghost use Rattle.reader.specs.Texts.{FirstNewline, newlines, Unfit};
 
 use super::Reader;
 use crate::fault::Fault;
@@ -16,48 +16,37 @@ pub const LIMIT: usize = 32_768;
 fn newlines(text: &[u8]) -> usize
     ensures { result ≡ newlines text.now }
 {
-    let mut count = 0;
-    for byte in text {
-        if *byte == b'\n' {
-            count += 1;
-        }
-    }
-    count
+    text.iter().filter(|byte| **byte == b'\n').count()
 }
 
-// The fault of the whole text, if it has one.
-fn text_fault(text: &[u8]) -> Option<Fault>
+// A text is read line by line where it has no fault as a whole.
+fn whole_text(text: &[u8]) -> Result<(), Fault>
     ensures { Unfit text.now result }
 {
     if text.len() > LIMIT {
-        return Some(Fault {
+        return Err(Fault {
             cause: Cause::Length,
             line: 0,
         });
     }
     match text {
-        [] => Some(Fault {
+        [] => Err(Fault {
             cause: Cause::Turn,
             line: 1,
         }),
-        [.., b'\n'] => None,
-        _ => Some(Fault {
+        [.., b'\n'] => Ok(()),
+        _ => Err(Fault {
             cause: Cause::Newline,
             line: newlines(text) + 1,
         }),
     }
 }
 
-// Where the line that begins at `start` ends.
-fn line_end(text: &[u8], start: usize) -> usize
-    requires { (start < length text.now) × (Ended text.now) }
-    ensures { FirstNewline text.now start result }
+// How long the first line is, without its newline; absent where no line ends.
+fn line_length(text: &[u8]) -> Option<usize>
+    ensures { FirstNewline text.now result }
 {
-    let mut end = start;
-    while text[end] != b'\n' {
-        end += 1;
-    }
-    end
+    text.iter().position(|byte| *byte == b'\n')
 }
 
 impl<'a> Reader<'a> {
@@ -74,34 +63,32 @@ impl<'a> Reader<'a> {
     }
 
     // A fault of the whole text is found before the first line is handed out, and there is none after that.
-    fn fault_before(&self) -> Option<Fault>
+    fn before_lines(&self) -> Result<(), Fault>
         ensures { Before self.now result }
     {
         if self.place > 0 {
-            return None;
+            return Ok(());
         }
-        text_fault(self.text)
+        whole_text(self.text)
     }
 
     // The next line, or none after the last. At a fault the reader stays where it is.
     pub fn next_line<T: Written>(&mut self) -> Result<Option<Line<'a>>, Fault>
-        ensures next { Next T.Time.count self.old self.new result }
+        ensures next { Next T.Time.COUNT self.old self.new result }
     {
-        if let Some(fault) = self.fault_before() {
-            return Err(fault);
-        }
+        self.before_lines()?;
         let text = self.text;
-        let start = self.place;
-        if start == text.len() {
+        let rest = &text[self.place..];
+        let Some(length) = line_length(rest) else {
             return Ok(None);
-        }
-        let end = line_end(text, start);
+        };
         let line = self.line;
-        match checked_line::<T>(&text[start..end], line, self.last) {
+        // By cases: through `map_err` the proof did not learn what the closure made of the cause.
+        match checked_line::<T>(&rest[..length], line, self.last) {
             Ok(taken) => {
                 self.last = Some(taken.letter());
-                self.place = end + 1;
-                self.line = line + 1;
+                self.place += length + 1;
+                self.line += 1;
                 Ok(Some(taken))
             }
             Err(cause) => Err(Fault { cause, line }),

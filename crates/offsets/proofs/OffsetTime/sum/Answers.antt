@@ -5,8 +5,8 @@ use Rattle.std.proofs.lemmas.Int.{to_z-of_z}
 
 pub returns : goal.returns
 returns c =
-    let first : SFits w128 c.exact.result = search rules in
-    let second : SFits w128 c.exact-2.result = search rules in
-    let both : SFits w128 (c.exact.result +ℤ c.exact-2.result) = search rules in
+    let first : SFits w128 c.from.result = search rules in
+    let second : SFits w128 c.from-2.result = search rules in
+    let both : SFits w128 (c.from.result +ℤ c.from-2.result) = search rules in
     let given = simp to_z-of_z at c.given.ensures.value in
-    record { value = simp (c.exact.ensures.value, c.exact-2.ensures.value) at given }
+    record { value = simp (c.from.ensures, c.from-2.ensures) at given }

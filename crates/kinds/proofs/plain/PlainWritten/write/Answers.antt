@@ -1,11 +1,10 @@
 use Rattle.std.proofs.Common.{w64, SFits, rules}
-use Rattle.kinds.proofs.ShownRows.{row_last}
-use Rattle.kinds.proofs.plain.PlainWritten.write.Goals as goal
 use Rattle.std.proofs.lemmas.Int.{to_z-of_z}
+use Rattle.kinds.proofs.Fields.{not_refused}
+use Rattle.kinds.proofs.plain.PlainWritten.write.Goals as goal
 
-pub returns : goal.returns
-returns c =
+pub returns-in_err-write : goal.returns-in_err-write
+returns-in_err-write c =
     let fits : SFits w64 c.args.self.picoseconds = search rules in
     let admitted = c.in_ok-admit.ensures.value in
-    let written = simp to_z-of_z at c.put.ensures.after in
-    record { value = (admitted.1, row_last _ 0 _ _ admitted.0 written) }
+    absurd (not_refused _ _ c.args.self.picoseconds (to_z-of_z w64 _ fits) admitted.0 admitted.1.0 c.in_err-write.ensures.value.1)

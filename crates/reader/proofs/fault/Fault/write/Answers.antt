@@ -1,12 +1,33 @@
-use Rattle.std.proofs.Common.{ap, ◌∙◌}
-use Rattle.reader.proofs.FaultLines.{fault_line}
-use Rattle.reader.proofs.fault.Fault.write.Goals as goal
+use Rattle.std.proofs.Common.{◌≡◌, pos, ap, ◌∙◌, arith, w64, w8, Fits, to_z, of_z, rules, length-set}
+use Rattle.std.proofs.lemmas.Int.{to_z-of_z, to_z_pos}
 use Rattle.lines.specs.Causes.{layer_number}
+use Rattle.reader.proofs.FaultLines.{not_refused, fault_line}
+use Rattle.reader.proofs.fault.Fault.write.Goals as goal
+
+pub returns-in_err-write_at : goal.returns-in_err-write_at
+returns-in_err-write_at c =
+    let number : to_z w64 (of_z w64 c.from.result) ≡ pos c.number.result = to_z-of_z w64 c.from.result (search rules) ∙ c.from.ensures in
+    let small : Fits w8 c.number.result = search rules in
+    let within = length-set c.args.bytes.now 0 69 in
+    absurd (not_refused _ c.number.result 1 4 _ _ _ number (omega arith) (omega (arith, small)) (omega arith) c.in_err-write_at.ensures.value)
+
+pub returns-in_err-write_at-2 : goal.returns-in_err-write_at-2
+returns-in_err-write_at-2 c =
+    let number : to_z w64 (of_z w64 c.from-2.result) ≡ pos c.number-2.result = to_z-of_z w64 c.from-2.result (search rules) ∙ c.from-2.ensures in
+    let small : Fits w8 c.number-2.result = search rules in
+    let first = c.in_ok-write_at.ensures.value in
+    absurd (not_refused _ c.number-2.result 5 4 _ _ _ number (omega arith) (omega (arith, small)) (omega (arith, first.len, length-set c.args.bytes.now 0 69)) c.in_err-write_at-2.ensures.value)
+
+pub returns-in_err-write_at-3 : goal.returns-in_err-write_at-3
+returns-in_err-write_at-3 c =
+    let number = to_z_pos w64 c.args.self.now.line (omega arith) in
+    let first = c.in_ok-write_at.ensures.value in
+    let second = c.in_ok-write_at-2.ensures.value in
+    absurd (not_refused _ c.args.self.now.line 9 6 _ _ _ number (omega arith) (omega arith) (omega (arith, second.len, first.len, length-set c.args.bytes.now 0 69)) c.in_err-write_at-3.ensures.value)
 
 pub returns : goal.returns
 returns c =
-    let is-layer = c.from.ensures ∙ c.number.ensures.value ∙ ap layer_number c.layer.ensures.value in
-    let is-cause = c.from-2.ensures ∙ c.number-2.ensures.value in
-    record {
-      value = fault_line c.args.self.now c.from.result c.from-2.result c.args.bytes.now c.put.new.bytes c.put-2.new.bytes c.put-3.new.bytes is-layer is-cause c.if-bytes-ne-WIDTH.false c.put.ensures c.put-2.ensures c.put-3.ensures;
-    }
+    let is-layer : to_z w64 (of_z w64 c.from.result) ≡ pos (layer_number _) = to_z-of_z w64 c.from.result (search rules) ∙ c.from.ensures ∙ ap pos (c.number.ensures.value ∙ ap layer_number c.layer.ensures.value) in
+    let is-cause : to_z w64 (of_z w64 c.from-2.result) ≡ pos _ = to_z-of_z w64 c.from-2.result (search rules) ∙ c.from-2.ensures ∙ ap pos c.number-2.ensures.value in
+    let is-line = to_z_pos w64 c.args.self.now.line (omega arith) in
+    record { value = fault_line c.args.self.now _ _ _ c.args.bytes.now _ _ _ is-layer is-cause is-line c.if-bytes-ne-WIDTH.false c.in_ok-write_at.ensures.value c.in_ok-write_at-2.ensures.value c.in_ok-write_at-3.ensures.value }

@@ -1,21 +1,19 @@
-use Rattle.std.proofs.Common.{drop, Some, refl, ap, ◌∙◌, inr, arith}
-use lib.Seq.{drop-length}
-use Rattle.reader.proofs.Readings.{line_ahead, length_line}
+use Rattle.std.proofs.Common.{refl, ap, Some, inr, arith, length-take-le}
+use Rattle.std.proofs.lemmas.List.{take_rest}
+use Rattle.reader.proofs.Readings.{line_ahead}
+use Rattle.reader.specs.Readings.{rest}
 use Rattle.reader.proofs.reader.Reader.next_line.Goals as goal
-
-pub returns-then-start-text : goal.returns-then-start-text
-returns-then-start-text g c = record { next = (c.in_default.ensures, ap (λ n. drop n c.args.self.now.text.now) c.if-start-text.true ∙ drop-length c.args.self.now.text.now, refl) }
 
 pub returns-in-Ok : goal.returns-in-Ok
 returns-in-Ok g c =
-    let first = c.line_end-end.ensures in
+    let first = simp take_rest at c.in-Some.ensures in
     record {
       next = record {
         bytes = _;
-        ahead = line_ahead c.args.self.now c.line_end-end.result c.in_default.ensures first;
-        good = c.in-Ok.ensures.checked;
+        ahead = line_ahead c.args.self.now c.in-Some.length c.in_ok-before_lines.ensures first;
+        good = simp take_rest at c.in-Ok.ensures.checked;
         text = refl;
-        place = omega (arith, length_line _ _ _ first, first.forward);
+        place = omega (arith, length-take-le c.in-Some.length (rest c.args.self.now) (omega (arith, first.within)));
         number = refl;
         last = ap Some c.letter.ensures.value;
       };
@@ -23,12 +21,13 @@ returns-in-Ok g c =
 
 pub returns-in-Err : goal.returns-in-Err
 returns-in-Err g c =
+    let first = simp take_rest at c.in-Some.ensures in
     record {
       next = (
         inr (record {
           bytes = _;
-          ahead = line_ahead c.args.self.now c.line_end-end.result c.in_default.ensures c.line_end-end.ensures;
-          faulty = c.in-Err.ensures.checked;
+          ahead = line_ahead c.args.self.now c.in-Some.length c.in_ok-before_lines.ensures first;
+          faulty = simp take_rest at c.in-Err.ensures.checked;
           number = refl;
         }),
         refl,

@@ -1,0 +1,54 @@
+-- Why what is kept of a text is a sheet, or has its first fault, just as the whole text does. Assumes nothing.
+use Rattle.std.proofs.Common.{◌≡◌, ℕ, ◌+◌, ◌<◌, ◌≤◌, Bool, true, false, leb, List, length, Some, None, Ok, Err, Option, Result, IfOk, IfSome, OnOk, refl, subst, arith, leb-false, leb-true, length-take}
+use Rattle.lines.specs.declared.cause.Cause.{Cause}
+use Rattle.lines.specs.declared.line.Line.{Line}
+use Rattle.programs.specs.Inputs.{kept}
+use Rattle.programs.specs.declared.request.Kind.{Kind}
+use Rattle.reader.specs.Sheets.{Told, as_whole, by_lines}
+use Rattle.reader.specs.Summaries.{Surveyed}
+use Rattle.reader.specs.Texts.{UnfitBy, limit}
+use Rattle.reader.specs.declared.fault.Fault.{Fault}
+use Rattle.reader.specs.declared.summary.Summary.{Summary}
+use Rattle.sheetcheck.specs.Reports.{numbers, Prints, said, status, Ran}
+use Rattle.std.proofs.lemmas.List.{take_all}
+use Rattle.std.specs.Io.KnownBytes.{Appends}
+use Rattle.std.specs.Process.{exit_status}
+use Rattle.std.specs.declared.process.ExitCode.{ExitCode}
+
+-- a text above the limit has no other fault than its length
+too_long : (text whole : List ℕ) (c : Cause) (n : ℕ) → limit < length text → limit < length whole → UnfitBy text c n → UnfitBy whole c n
+too_long text whole Cause.Length n long all h = (all, h.1)
+too_long text whole Cause.Newline n long all h = absurd (omega (arith, h.1))
+too_long text whole Cause.Layout n long all h = h
+too_long text whole Cause.Turn n long all h = absurd (omega (arith, h.0))
+too_long text whole Cause.Count n long all h = h
+too_long text whole Cause.Field n long all h = h
+
+told_above : (k : ℕ) (text whole : List ℕ) (ls : List Line) (f : Option Fault) → limit < length text → limit < length whole → Told k text ls f → Told k whole ls f
+told_above k text whole _ _ long all (as_whole f h) = as_whole f (too_long text whole f.cause f.line long all h)
+told_above k text whole _ _ long all (by_lines lines ls f fit _ _) = absurd (omega (arith, fit.short))
+
+told_whole : (k : ℕ) (whole : List ℕ) (ls : List Line) (f : Option Fault) (b : Bool) → leb (length whole) limit ≡ b → Told k (kept limit whole) ls f → Told k whole ls f
+told_whole k whole ls f true e told =
+    let short : length whole ≤ limit + 1 = omega (arith, leb-true) in
+    subst (λ l. Told k l ls f) (take_all (limit + 1) whole short) told
+told_whole k whole ls f false e told =
+    let all : limit < length whole = omega (arith, leb-false) in
+    let long : limit < length (kept limit whole) = simp length-take (omega arith) in
+    told_above k (kept limit whole) whole ls f long all told
+
+pub surveyed_whole : (k : ℕ) (whole : List ℕ) (r : Result Summary Fault) → Surveyed k (kept limit whole) r → Surveyed k whole r
+surveyed_whole k whole (Ok s) h = (h.0, told_whole k whole h.0 None (leb (length whole) limit) refl h.1, h.2)
+surveyed_whole k whole (Err f) h = (h.0, told_whole k whole h.0 (Some f) (leb (length whole) limit) refl h.1)
+
+-- what is told of the text that is kept is told of the whole
+pub ran : {E : Type 0} (k : Kind) (known : Option (List ℕ)) (text : List ℕ) (sheet : Result Summary Fault) (r : Result ExitCode E) (o p e f : Option (List ℕ)) → IfSome known (λ whole. text ≡ kept limit whole) → Surveyed (numbers k) text sheet → IfOk r (λ code. exit_status code ≡ status sheet) → OnOk r (Prints sheet o p) → OnOk r (Appends e f (said sheet)) → IfOk r (λ code. IfSome known (λ whole. Ran k whole code o p e f))
+ran k known text sheet (Err _) o p e f cut surveyed ends prints says = tt
+ran k None text sheet (Ok code) o p e f cut surveyed ends prints says = tt
+ran k (Some whole) text sheet (Ok code) o p e f cut surveyed ends prints says = record {
+  sheet = sheet;
+  surveyed = surveyed_whole (numbers k) whole sheet (subst (λ t. Surveyed (numbers k) t sheet) cut surveyed);
+  status = ends;
+  prints = prints;
+  says = says;
+}
