@@ -105,6 +105,7 @@ pub fn write(number: i64, column: &mut [u8]) -> Result<(), NoRoom>
 }
 
 // Writes into the columns of a text from `start` on, `width` of them.
+// Tested by hand: of a part that `get_mut` hands out nothing is said of what the text ends as.
 pub fn write_at(number: i64, text: &mut [u8], start: usize, width: usize) -> Result<(), NoRoom>
     ensures value { WritesAt number start width text.old text.new result }
 {
@@ -127,6 +128,7 @@ fn put_sign(negative: bool, front: &mut [u8]) -> Result<(), NoRoom>
 {
     front.fill(b' ');
     if negative {
+        // A slice pattern shows the place that is written, as `last_mut` would not.
         let [.., last] = front else {
             return Err(NoRoom);
         };

@@ -62,6 +62,7 @@ impl Written for Guarded {
     }
 
     fn write(self, columns: &mut [u8]) -> Result<(), Unwritten> {
+        // What is admitted has room, so neither number is refused.
         field::admit(self, columns.len())?;
         let (first, second) = columns.split_at_mut(FIELD);
         columns::write(self.picoseconds, first)?;

@@ -12,6 +12,7 @@ impl Numbered for Offset {
         Offset { number, offset }
     }
 
+    // Worked out here anew, as an expected value.
     fn meaning(self) -> i128 {
         i128::from(self.number) + i128::from(self.offset)
     }

@@ -29,7 +29,7 @@ pub enum Layer {
 }
 
 impl Cause {
-    // A method and no `From`: at a fault, which has a cause and a layer, `u8::from` would not say which number is meant.
+    // One cast, under a name that stands: `From` would be no plainer.
     pub fn number(self) -> u8
         ensures value { result ≡ cause_number self }
     {
@@ -65,7 +65,7 @@ impl fmt::Display for Cause {
 impl Error for Cause {}
 
 impl Layer {
-    // A method, as for a cause.
+    // One cast, as for a cause.
     pub fn number(self) -> u8
         ensures value { result ≡ layer_number self }
     {

@@ -12,6 +12,7 @@ const PIN: usize = 4;
 fn record_fields<T: Time>(rest: &[u8]) -> Option<RecordFields<'_>>
     ensures { RecordApart T.COUNT rest.now result }
 {
+    // The line ends with its last field, so the width is tested whole and no split can fail.
     let end = FIELD * T::COUNT;
     if rest.len() != 2 * PIN + 2 * end {
         return None;
@@ -31,6 +32,7 @@ fn record_fields<T: Time>(rest: &[u8]) -> Option<RecordFields<'_>>
 fn pins_line(rest: &[u8], line: usize) -> Option<Line<'_>>
     ensures { LettersApart 78 line rest.now result }
 {
+    // Whole, as for a record.
     if rest.len() != 2 * PIN {
         return None;
     }

@@ -19,7 +19,7 @@ pub struct RecordFields<'a> {
     pub high: &'a [u8],
 }
 
-// The number stands in each case: a line is told by its case alone, its number and parts together.
+// Each case holds the line's number beside its parts: the form that docs/DECISIONS.md gives lines.
 #[derive(Clone, Copy)]
 pub enum Line<'a> {
     // N: how many pins there are, and how many numbers make up a value.

@@ -28,7 +28,7 @@ impl From<Offset> for i128 {
     }
 }
 
-// A sum or an opposite is absent and has no error, so this is no `TryFrom`.
+// A sum or an opposite is absent and has no error, so this is no `TryFrom`. The test stands before the cast that it allows.
 fn given(number: i128) -> Option<Offset>
     ensures value { Gives number result }
 {

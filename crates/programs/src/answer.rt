@@ -12,7 +12,7 @@ pub struct Answer {
     pub output: Vec<u8>,
     // What is said to people on standard error.
     pub words: String,
-    // Whether the program ends in an error.
+    // Whether the program ends in an error. What is written is there in both cases, so no `Result` fits.
     pub failed: bool,
 }
 

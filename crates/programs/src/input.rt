@@ -17,6 +17,7 @@ pub fn read_limited<R: Read>(source: &mut R, limit: u32, heap: Global) -> io::Re
 {
     let most = limit as usize + 1;
     let mut text = Vec::new(heap);
+    // Lent by hand: of what `by_ref` lends, no clause says which bytes it has.
     (&mut *source).take(most as u64).read_to_end(&mut text)?;
     // `take` gave no more already, but no clause says so of a source whose bytes are not known.
     text.truncate(most);

@@ -12,9 +12,11 @@ pub enum Kind {
 pub enum Request {
     Run(Kind),
     Help,
+    // A case and no error: `asked` cannot fail.
     NotUnderstood,
 }
 
+// A match: `FromStr` for a kind would leave half of it, and add an error.
 fn one_word(word: &str) -> Request
     ensures { AskedBy word.now result }
 {

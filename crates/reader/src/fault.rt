@@ -7,9 +7,10 @@ use lines::cause::Cause;
 use std::error::Error;
 use std::fmt;
 
-// How many bytes an E line has, and the greatest line number that it can show.
-const WIDTH: usize = 15;
+// How many bytes an E line has.
+pub const WIDTH: usize = 15;
 
+// The greatest line number that it can show.
 const MOST: usize = 999_999;
 
 #[derive(Clone, Copy, Debug, PartialEq, Eq)]
@@ -26,6 +27,7 @@ impl Fault {
         if bytes.len() != WIDTH || self.line > MOST {
             return Err(NoRoom);
         }
+        // All three numbers have room now, so none of them is refused.
         bytes[0] = b'E';
         columns::write_at(i64::from(self.cause.layer().number()), bytes, 1, 4)?;
         columns::write_at(i64::from(self.cause.number()), bytes, 5, 4)?;

@@ -6,6 +6,7 @@ use lines::line::Letter;
 
 #[derive(Drop)]
 pub struct Reader<'a> {
+    // The whole text, since it is looked at as a whole, and since the promise is about a place in it.
     text: &'a [u8],
     // Where the next line begins, and its number.
     place: usize,

@@ -5,6 +5,7 @@ ghost use Rattle.reader_tests.specs.Escapes.{Digit, Takes, Spells};
 use anyhow::Context;
 use std::alloc::Global;
 
+// Small letters only: the library's `to_digit` takes capitals too.
 fn digit(byte: u8) -> Option<u8>
     ensures { Digit byte result }
 {

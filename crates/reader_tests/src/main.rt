@@ -10,11 +10,12 @@ use kinds::plain::Plain;
 use kinds::time::Written;
 use lines::cause::Cause;
 use offsets::Offset;
-use reader::fault::Fault;
+use reader::fault::{Fault, WIDTH};
 use reader::summary::{Summary, survey};
 use std::io;
 use std::io::{BufRead, BufReader, Write};
 
+// A match: the word chooses a type, which no closure can.
 fn survey_as(kind: &str, text: &[u8]) -> Option<Result<Summary, Fault>> {
     match kind {
         "plain" => Some(survey::<Plain>(text)),
@@ -24,6 +25,7 @@ fn survey_as(kind: &str, text: &[u8]) -> Option<Result<Summary, Fault>> {
     }
 }
 
+// A line of its own form, so that a case is a line.
 fn print_summary(rt: &HostRuntime, summary: &Summary) -> io::Result<()> {
     let Summary {
         pins,
@@ -34,8 +36,9 @@ fn print_summary(rt: &HostRuntime, summary: &Summary) -> io::Result<()> {
     println!(rt; "pins {pins} names {names} constraints {constraints} commits {commits}")
 }
 
+// Written here too: this very call is tried.
 fn print_fault(rt: &HostRuntime, fault: &Fault) -> anyhow::Result<()> {
-    let mut line = [0; 15];
+    let mut line = [0; WIDTH];
     fault.write(&mut line)?;
     rt.stdout().write_all(&line)?;
     rt.stdout().write_all(b"\n")?;

@@ -37,17 +37,21 @@ told_whole k whole ls f false e told =
     let long : limit < length (kept limit whole) = simp length-take (omega arith) in
     told_above k (kept limit whole) whole ls f long all told
 
-pub surveyed_whole : (k : ℕ) (whole : List ℕ) (r : Result Summary Fault) → Surveyed k (kept limit whole) r → Surveyed k whole r
+surveyed_whole : (k : ℕ) (whole : List ℕ) (r : Result Summary Fault) → Surveyed k (kept limit whole) r → Surveyed k whole r
 surveyed_whole k whole (Ok s) h = (h.0, told_whole k whole h.0 None (leb (length whole) limit) refl h.1, h.2)
 surveyed_whole k whole (Err f) h = (h.0, told_whole k whole h.0 (Some f) (leb (length whole) limit) refl h.1)
 
--- what is told of the text that is kept is told of the whole
-pub ran : {E : Type 0} (k : Kind) (known : Option (List ℕ)) (text : List ℕ) (sheet : Result Summary Fault) (r : Result ExitCode E) (o p e f : Option (List ℕ)) → IfSome known (λ whole. text ≡ kept limit whole) → Surveyed (numbers k) text sheet → IfOk r (λ code. exit_status code ≡ status sheet) → OnOk r (Prints sheet o p) → OnOk r (Appends e f (said sheet)) → IfOk r (λ code. IfSome known (λ whole. Ran k whole code o p e f))
+-- what is kept is a sheet, or has its first fault, as the input is and has, where its bytes are known
+surveyed_known : (k : ℕ) (known : Option (List ℕ)) (text : List ℕ) (r : Result Summary Fault) → IfSome known (λ whole. text ≡ kept limit whole) → Surveyed k text r → IfSome known (λ whole. Surveyed k whole r)
+surveyed_known k None text r cut surveyed = tt
+surveyed_known k (Some whole) text r cut surveyed = surveyed_whole k whole r (subst (λ t. Surveyed k t r) cut surveyed)
+
+-- what is told of the text that is kept is told of the input
+pub ran : {E : Type 0} (k : Kind) (known : Option (List ℕ)) (text : List ℕ) (sheet : Result Summary Fault) (r : Result ExitCode E) (o p e f : Option (List ℕ)) → IfSome known (λ whole. text ≡ kept limit whole) → Surveyed (numbers k) text sheet → IfOk r (λ code. exit_status code ≡ status sheet) → OnOk r (Prints sheet o p) → OnOk r (Appends e f (said sheet)) → IfOk r (λ code. Ran k known code o p e f)
 ran k known text sheet (Err _) o p e f cut surveyed ends prints says = tt
-ran k None text sheet (Ok code) o p e f cut surveyed ends prints says = tt
-ran k (Some whole) text sheet (Ok code) o p e f cut surveyed ends prints says = record {
+ran k known text sheet (Ok code) o p e f cut surveyed ends prints says = record {
   sheet = sheet;
-  surveyed = surveyed_whole (numbers k) whole sheet (subst (λ t. Surveyed (numbers k) t sheet) cut surveyed);
+  surveyed = surveyed_known (numbers k) known text sheet cut surveyed;
   status = ends;
   prints = prints;
   says = says;

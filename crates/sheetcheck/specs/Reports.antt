@@ -3,7 +3,7 @@
 --     Prints s old new              a stream of contents `old`, where these are known, grows by the summary, or by the E line of the fault, and a newline
 --     said s                        what is said on standard error: nothing of a summary, and of a fault which line shows it and what is wrong
 --     status s                      the status with which the program ends
---     Ran k text code o p e f       the text as a sheet of the kind k is told on an output of contents o, then p, and on errors of contents e, then f, and the program ends with the code
+--     Ran k known code o p e f      a sheet of the kind k, which is that of the input where its bytes are known, is told on an output of contents o, then p, and on errors of contents e, then f, and the program ends with the code
 --     usage                         the line that says how to call the program
 --     Declined code o p e f         the usage line is said, nothing else, and the program ends with status 1
 --     Answers q known code o p e f  the answer to the request q, with an input whose bytes are known or not
@@ -34,9 +34,9 @@ abbrev pub status : Result Summary Fault → ℕ
 status (Ok summary) = 0
 status (Err fault) = 1
 
-pub record Ran (k : Kind) (text : List ℕ) (code : ExitCode) (o p e f : Option (List ℕ)) : Type 0 where
+pub record Ran (k : Kind) (known : Option (List ℕ)) (code : ExitCode) (o p e f : Option (List ℕ)) : Type 0 where
   pub sheet : Result Summary Fault
-  pub surveyed : Surveyed (numbers k) text sheet
+  pub surveyed : IfSome known (λ text. Surveyed (numbers k) text sheet)
   pub status : exit_status code ≡ status sheet
   pub prints : Prints sheet o p
   pub says : Appends e f (said sheet)
@@ -50,6 +50,6 @@ pub record Declined (code : ExitCode) (o p e f : Option (List ℕ)) : Type 0 whe
   pub says : Appends e f usage
 
 abbrev pub Answers : Request → Option (List ℕ) → ExitCode → Option (List ℕ) → Option (List ℕ) → Option (List ℕ) → Option (List ℕ) → Type 0
-Answers (Request.Run k) known code o p e f = IfSome known (λ text. Ran k text code o p e f)
+Answers (Request.Run k) known code o p e f = Ran k known code o p e f
 Answers Request.Help known code o p e f = Declined code o p e f
 Answers Request.NotUnderstood known code o p e f = Declined code o p e f

@@ -3,7 +3,7 @@
 // What the system gives and takes no contract can say; what is told is stated for streams whose bytes are known.
 #![tactic(auto)]
 
-ghost use Rattle.std.specs.Prelude.{◌≡◌, ◌<◌, IfOk, IfSome, IsErr, OnOk};
+ghost use Rattle.std.specs.Prelude.{◌≡◌, ◌<◌, ◌↔◌, Ok, IfOk, IsErr, IsOk, OnOk};
 ghost use Rattle.std.specs.Io.KnownBytes.{Appends, IsAtEnd};
 ghost use Rattle.std.specs.Process.{exit_status};
 ghost use Rattle.programs.specs.Inputs.{Left};
@@ -16,7 +16,7 @@ use kinds::guarded::Guarded;
 use kinds::plain::Plain;
 use programs::input::read_limited;
 use programs::request::{Kind, Request, asked};
-use reader::fault::Fault;
+use reader::fault::{Fault, WIDTH};
 use reader::reader::LIMIT;
 use reader::summary::{Summary, survey};
 use std::alloc::Global;
@@ -24,6 +24,7 @@ use std::env;
 use std::io::{Read, Write};
 use std::process::ExitCode;
 
+// A match: the kind chooses a type, which no closure can.
 fn surveyed(kind: Kind, text: &[u8]) -> Result<Summary, Fault>
     ensures { Surveyed (numbers kind) text.now result }
 {
@@ -34,13 +35,20 @@ fn surveyed(kind: Kind, text: &[u8]) -> Result<Summary, Fault>
 }
 
 // The E line, without its newline.
-fn fault_line(fault: &Fault) -> Result<[u8; 15], NoRoom>
+fn fault_line(fault: &Fault) -> Result<[u8; WIDTH], NoRoom>
     ensures line { IfOk result (FaultLine fault.now) }
     ensures no_room { IsErr result → 999_999 < fault.now.line }
 {
-    let mut line = [b' '; 15];
+    let mut line = [b' '; WIDTH];
     fault.write(&mut line)?;
     Ok(line)
+}
+
+fn tell_summary<O: Write>(summary: &Summary, output: &mut O) -> anyhow::Result<()>
+    ensures prints { OnOk result (Prints (Ok summary.now) (O.contents output.old) (O.contents output.new)) }
+{
+    writeln!(output, "{summary}")?;
+    Ok(())
 }
 
 // The E line, and in words what is wrong and where. What cannot be told is an error.
@@ -68,7 +76,19 @@ fn status(sheet: &Result<Summary, Fault>) -> ExitCode
     }
 }
 
-// Tells the summary, or the fault.
+// The status once the sheet is told; what could not be told stays an error, and has no status.
+fn status_after(
+    told: anyhow::Result<()>,
+    sheet: &Result<Summary, Fault>,
+) -> anyhow::Result<ExitCode>
+    ensures told { IsOk result ↔ IsOk told }
+    ensures status { IfOk result (λ code. exit_status code ≡ status sheet.now) }
+{
+    told?;
+    Ok(status(sheet))
+}
+
+// Tells the summary, or the fault. Two streams and no struct of them: each clause would name them through it.
 fn report<O: Write, E: Write>(
     sheet: &Result<Summary, Fault>,
     output: &mut O,
@@ -78,11 +98,11 @@ fn report<O: Write, E: Write>(
     ensures prints { OnOk result (Prints sheet.now (O.contents output.old) (O.contents output.new)) }
     ensures says { OnOk result (Appends (E.contents errors.old) (E.contents errors.new) (said sheet.now)) }
 {
-    match sheet {
-        Ok(summary) => writeln!(output, "{summary}")?,
-        Err(fault) => tell_fault(fault, output, errors)?,
-    }
-    Ok(status(sheet))
+    let told = match sheet {
+        Ok(summary) => tell_summary(summary, output),
+        Err(fault) => tell_fault(fault, output, errors),
+    };
+    status_after(told, sheet)
 }
 
 // Reads the sheet to its end, and reports it.
@@ -93,8 +113,8 @@ fn run<R: Read, O: Write, E: Write>(
     errors: &mut E,
     heap: Global,
 ) -> anyhow::Result<ExitCode>
-    ensures ran { IfOk result (λ code. IfSome (R.remaining source.old) (λ text.
-        Ran kind text code (O.contents output.old) (O.contents output.new) (E.contents errors.old) (E.contents errors.new))) }
+    ensures ran { IfOk result (λ code. Ran kind (R.remaining source.old) code
+        (O.contents output.old) (O.contents output.new) (E.contents errors.old) (E.contents errors.new)) }
     ensures at_end { OnOk result (IsAtEnd (R.remaining source.new)) }
 {
     let text = read_limited(source, LIMIT as u32, heap)?;
@@ -110,7 +130,8 @@ fn decline<E: Write>(errors: &mut E) -> anyhow::Result<ExitCode>
     Ok(ExitCode::FAILURE)
 }
 
-// Only a run reads its input.
+// Only a run reads its input. It is told at once and not made a value first: `deliver` ends a failed answer in an error,
+// which today's `main` would print beside the words.
 fn answer<R: Read, O: Write, E: Write>(
     request: Request,
     source: &mut R,
