@@ -1,6 +1,6 @@
 -- What one escape after the other stands for. Assumes nothing.
-use Rattle.std.proofs.Common.{◌≡◌, ℕ, ◌+◌, ◌*◌, ◌<◌, ◌≤◌, List, [], ◌∷◌, ◌++◌, length, get_or, drop, Some, Option, sym, refl, ap, ◌∙◌, subst, append_assoc, append-nil, arith, Bor}
-use Rattle.reader_tests.specs.Escapes.{hexit, Spells, Digit, First, Takes}
+use Rattle.std.proofs.Common.{◌≡◌, ℕ, ◌+◌, ◌*◌, ◌<◌, ◌≤◌, List, [], ◌∷◌, ◌++◌, length, get_or, drop, Some, sym, refl, ap, ◌∙◌, subst, append_assoc, append-nil, arith}
+use Rattle.reader_tests.specs.Escapes.{hexit, Spells, Digit, First}
 use Rattle.reader_tests.specs.Escapes.Spells.{nothing, newline, backslash, by_digits, itself}
 use Rattle.std.proofs.lemmas.List.{drop_more, take_rest}
 use Rattle.std.specs.List.{between}
@@ -43,10 +43,6 @@ module _ (text : List ℕ) where
       let rest = between 3 (length text) text in
       subst (λ t. First (92 ∷ t) (high * 16 + low) rest) (after_three text 120 (hexit high) (hexit low) long x h.1 l.1)
       (record { shorter = omega arith; spelled = λ bytes. by_digits high low rest bytes h.0 l.0 })
-
--- what was taken is the first byte
-pub takes_first : (text : List ℕ) (r : Option (ℕ × Bor (List ℕ))) (byte : ℕ) (rest : Bor (List ℕ)) → Takes text r → r ≡ Some (byte, rest) → First text byte rest.now
-takes_first text r byte rest takes is = subst (Takes text) is takes
 
 -- the loop's invariant: the text stands for the bytes and then for whatever the rest stands for
 abbrev pub Sofar : List ℕ → List ℕ → List ℕ → Type 0
