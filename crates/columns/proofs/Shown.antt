@@ -1,10 +1,10 @@
 -- Lemmas on numerals and on the columns that show them. Assumes nothing.
-use Rattle.std.proofs.Common.{◌≡◌, ℕ, zero, suc, ◌+◌, ◌<◌, List, [], ◌∷◌, ◌++◌, length, get_or, replicate, ℤ, pos, negsuc, Ok, Err, Result, sym, refl, ap, ◌∙◌, subst, append_assoc, arith, length-append, w64, SFits}
+use Rattle.std.proofs.Common.{◌≡◌, ℕ, zero, suc, ◌+◌, ◌<◌, List, [], ◌∷◌, ◌++◌, length, get_or, replicate, ℤ, pos, negsuc, Ok, Err, Result, sym, refl, ap, ◌∙◌, subst, append_assoc, append-nil, arith, length-append, w64, SFits}
 use lib.ListN.{length-replicate}
 use Rattle.std.proofs.lemmas.List.{replicate_more}
 use Rattle.std.proofs.lemmas.Slice.{first_rest}
 use Rattle.std.specs.List.{between}
-use Rattle.columns.proofs.Decimals.{digit_first, decimal_not, same_from_decimal}
+use Rattle.columns.proofs.Decimals.{digit_first, decimal_not, same_from_decimal, some_decimal}
 use Rattle.columns.specs.Columns.{decimal, numeral, Shows, Reads, Writes, OneNumber, OneColumn, WritesBack}
 use Rattle.columns.specs.Parts.{Unpadded, Names}
 use Rattle.columns.specs.declared.NoRoom.{NoRoom}
@@ -61,6 +61,17 @@ pub one_number : OneNumber
 one_number column y z as-y as-z =
     let same = sym as-y.justified ∙ as-z.justified in
     same_from_numeral y z (same_rest as-y.spaces as-z.spaces _ _ (numeral_first y) (numeral_first z) same)
+
+-- a numeral has a digit
+some_numeral : (z : ℤ) → 0 < length (numeral z)
+some_numeral (pos n) = some_decimal n
+some_numeral (negsuc n) = omega arith
+
+-- spaces alone show no number
+pub blank_shows_none : (m : ℕ) (z : ℤ) → Shows (replicate m 32) z → ⊥
+blank_shows_none m z shows =
+    let none = same_rest shows.spaces m (numeral z) [] (numeral_first z) (λ e. omega arith) (sym shows.justified ∙ sym (append-nil (replicate m 32))) in
+    omega (arith, some_numeral z, ap length none)
 
 -- a column is as long as its spaces and its numeral
 pub length_shows : (column : List ℕ) (z : ℤ) (shows : Shows column z) → length column ≡ shows.spaces + length (numeral z)

@@ -5,7 +5,7 @@ use lib.Signed.{lt_z}
 use Rattle.std.proofs.lemmas.List.{drop-set, length_push, replicate_more, set_at}
 use Rattle.columns.proofs.Decimals.{decimal_last}
 use Rattle.columns.specs.Columns.{decimal, numeral, Writes}
-use Rattle.columns.specs.Parts.{minus, Puts}
+use Rattle.columns.specs.Parts.{sign, Puts}
 
 -- the loop's invariant: from `place` on the digits are set, and those before are the digits of `rest`
 pub record Left (number : ℕ) (digits : List ℕ) (place rest : ℕ) : Type 0 where
@@ -33,7 +33,7 @@ set_minus k =
     ap (λ (l : List ℕ). set l k 45) (sym (replicate_more k 32)) ∙ set_at (replicate k 32) 32 [] 45 k (length-replicate k 32)
 
 -- spaces and a minus
-pub puts_minus : (before spaces : List ℕ) → spaces ≡ replicate (length before) 32 → 0 < length before → Puts (minus true) before (set spaces (length spaces - 1) 45) (Ok tt)
+pub puts_minus : (before spaces : List ℕ) → spaces ≡ replicate (length before) 32 → 0 < length before → Puts (sign true) before (set spaces (length spaces - 1) 45) (Ok tt)
 puts_minus before spaces filled some =
     let long : length spaces ≡ length before = ap length filled ∙ length-replicate (length before) 32 in
     let k : ℕ = length before - 1 in
@@ -41,20 +41,20 @@ puts_minus before spaces filled some =
     (k, (λ i. set (filled i) (long i - 1) 45) ∙ ap (λ n. set (replicate n 32) k 45) all ∙ set_minus k, length-set spaces _ 45 ∙ long)
 
 -- spaces alone
-pub puts_none : (before spaces : List ℕ) → spaces ≡ replicate (length before) 32 → Puts (minus false) before spaces (Ok tt)
+pub puts_none : (before spaces : List ℕ) → spaces ≡ replicate (length before) 32 → Puts (sign false) before spaces (Ok tt)
 puts_none before spaces filled =
     (length before, filled ∙ sym (append-nil (replicate (length before) 32)), ap length filled ∙ length-replicate (length before) 32)
 
 -- a numeral is its minus and its digits
-numeral_split : (z : ℤ) → numeral z ≡ minus (lt_z z (pos 0)) ++ decimal (nat_abs z)
+numeral_split : (z : ℤ) → numeral z ≡ sign (lt_z z (pos 0)) ++ decimal (nat_abs z)
 numeral_split (pos n) = rw (le-ltb n 0 (omega arith))
 numeral_split (negsuc n) = refl
 
 -- the sign in front and the digits behind it; y is z as its bits hold it, and m its size
-pub writes_all : (y z : ℤ) → y ≡ z → (m : ℕ) → m ≡ nat_abs y → (column before front digits : List ℕ) → length before + length (decimal m) ≡ length column → Puts (minus (lt_z y (pos 0))) before front (Ok tt) → digits ≡ decimal m → Writes z column (front ++ digits) (Ok tt)
+pub writes_all : (y z : ℤ) → y ≡ z → (m : ℕ) → m ≡ nat_abs y → (column before front digits : List ℕ) → length before + length (decimal m) ≡ length column → Puts (sign (lt_z y (pos 0))) before front (Ok tt) → digits ≡ decimal m → Writes z column (front ++ digits) (Ok tt)
 writes_all y z same m abs column before front digits room puts put =
-    let sign = minus (lt_z y (pos 0)) in
-    let parts : front ++ digits ≡ (replicate puts.0 32 ++ sign) ++ decimal m = λ i. puts.1 i ++ put i in
-    let whole = ap (λ n. sign ++ decimal n) abs ∙ sym (numeral_split y) ∙ ap numeral same in
-    let shown = append_assoc (replicate puts.0 32) sign _ ∙ ap (λ l. replicate puts.0 32 ++ l) whole in
+    let front_sign = sign (lt_z y (pos 0)) in
+    let parts : front ++ digits ≡ (replicate puts.0 32 ++ front_sign) ++ decimal m = λ i. puts.1 i ++ put i in
+    let whole = ap (λ n. front_sign ++ decimal n) abs ∙ sym (numeral_split y) ∙ ap numeral same in
+    let shown = append_assoc (replicate puts.0 32) front_sign _ ∙ ap (λ l. replicate puts.0 32 ++ l) whole in
     (record { spaces = puts.0; justified = parts ∙ shown }, omega (arith, length-append front digits, puts.2, ap length put))

@@ -3,7 +3,7 @@
 --     Measures digits r              r is what reading a magnitude, with no minus, answers
 --     Names text r                   r is what reading the text, with no spaces, answers
 --     Kept n o                       o holds n, or nothing where n does not fit 64 bits
---     minus negative                 the sign of a number that is below zero or not
+--     sign negative                  the sign of a number that is below zero or not
 --     Puts text before after r       r is what writing the text at the end of a slice answers, which then holds `after`
 use Rattle.std.specs.Prelude.{◌≡◌, ℕ, ◌^◌, ◌<◌, ◌≤◌, Bool, true, false, List, [], ◌∷◌, ◌++◌, length, replicate, ℤ, Some, None, Ok, Err, Option, Result, FitsSigned, ◌≢◌, slice_index_or}
 use Rattle.std.specs.Int.{w64}
@@ -31,9 +31,9 @@ abbrev pub Kept : ℕ → Option ℕ → Type 0
 Kept n (Some m) = m ≡ n
 Kept n None = 2 ^ 64 ≤ n
 
-abbrev pub minus : Bool → List ℕ
-minus true = 45 ∷ []
-minus false = []
+abbrev pub sign : Bool → List ℕ
+sign true = 45 ∷ []
+sign false = []
 
 abbrev pub Puts : List ℕ → List ℕ → List ℕ → Result (Unit {0}) NoRoom → Type 0
 Puts text before after (Ok _) = (k : ℕ) × (after ≡ replicate k 32 ++ text) × (length after ≡ length before)

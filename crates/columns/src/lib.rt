@@ -4,7 +4,7 @@
 
 ghost use Rattle.std.specs.Prelude.{◌≡◌, ℕ, ◌+◌, ◌*◌, ◌∷◌, length, Some, codes};
 ghost use Rattle.columns.specs.Columns.{decimal, Reads, Writes, WritesAt, OneNumber, OneColumn, ReadsBack, WritesBack};
-ghost use Rattle.columns.specs.Parts.{Unpadded, Measures, Names, Kept, minus, Puts};
+ghost use Rattle.columns.specs.Parts.{Unpadded, Measures, Names, Kept, sign, Puts};
 
 use std::error::Error;
 use std::fmt;
@@ -124,7 +124,7 @@ fn digit_count(number: u64) -> usize
 }
 
 fn put_sign(negative: bool, front: &mut [u8]) -> Result<(), NoRoom>
-    ensures { Puts (minus negative) front.old front.new result }
+    ensures { Puts (sign negative) front.old front.new result }
 {
     front.fill(b' ');
     if negative {

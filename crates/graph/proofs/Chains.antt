@@ -5,7 +5,7 @@ use Rattle.std.specs.Option.{option_map}
 use Rattle.kinds.specs.Rows.{Row, plus, opposite}
 use Rattle.graph.specs.Schedules.{Record}
 use Rattle.graph.specs.Legs.{Leg, End, Low, High, leg_of, Step, leg_at, StepOf, Leads, Chain, length_of}
-use Rattle.graph.proofs.Rows.{zeros_plus, plus_assoc}
+use Rattle.kinds.proofs.Rows.{zeros_plus, plus_assoc}
 use Rattle.graph.proofs.Lengths.{none_some, mapped_some}
 
 module _ (k : ℕ) where

@@ -4,7 +4,7 @@ use Rattle.kinds.specs.Rows.{Row, zeros, plus, opposite, Le}
 use Rattle.graph.specs.Schedules.{Record, NotAbove, Feasible}
 use Rattle.graph.specs.Legs.{Low, High}
 use Rattle.graph.specs.Tables.{Cells, LeastLength, negated}
-use Rattle.graph.proofs.Rows.{le_of_gap, opposite_opposite, plus_comm}
+use Rattle.kinds.proofs.Rows.{le_of_gap, opposite_opposite, plus_comm}
 use Rattle.graph.proofs.Lengths.{above_rows, mapped_some}
 use Rattle.graph.proofs.Chains.{low_way, high_way, leg_of_low, leg_of_high}
 use Rattle.graph.proofs.Least.{Reaches, reaches_append, reaches_push, reaches_last, least_reached}

@@ -1,18 +1,19 @@
--- Tests that compute, for the worked examples: fit records, cells that agree, final times. Assumes nothing.
-use Rattle.std.proofs.Common.{◌≡◌, ℕ, zero, suc, Bool, true, false, not, ◌&&◌, ◌||◌, T, eqb, leb, List, [], ◌∷◌, ◌++◌, is_some, ⊎_elim, Some, None, Option, sym, refl, ap, ◌∙◌, subst, inl, inr, arith}
+-- Tests that compute, for the worked examples: records on the pins, cells that agree, final times. Assumes nothing.
+use Rattle.std.proofs.Common.{◌≡◌, ℕ, zero, suc, Bool, true, false, ◌&&◌, T, leb, List, [], ◌∷◌, ◌++◌, Some, None, Option, refl, ap, inl, inr, arith, ⊎_elim}
 use Rattle.std.specs.Ordering.{is_le}
+use Rattle.std.specs.List.{AllByRecursion}
 use Rattle.std.proofs.ByRecursion.{All-push}
-use Rattle.std.proofs.lemmas.Bool.{cases_eq, eq-eqb}
+use Rattle.std.proofs.lemmas.Bool.{cases_eq}
 use Rattle.std.proofs.lemmas.Bool.Decides.{nat_tests}
 use Rattle.kinds.specs.Rows.{Row, order}
-use Rattle.graph.specs.Schedules.{Pin, Record, NotAbove, Fit}
-use Rattle.graph.specs.Tables.{Cells, Table, LeastLength, range_low, range_high, updated, Refused, FinalTime}
-use Rattle.graph.specs.Examples.{Sheet}
-use Rattle.graph.proofs.Rows.{le_antisym}
+use Rattle.graph.specs.Schedules.{Pin, Record, NotAbove, OnPins, Forward}
+use Rattle.graph.specs.Tables.{Cells, Agree, range_low, range_high, updated, Refused, FinalTime}
+use Rattle.graph.specs.Examples.{HasTable}
+use Rattle.kinds.proofs.Rows.{le_antisym}
 use Rattle.graph.proofs.Tables.{the_update_is_the_table}
 
 -- the parts of two tests in one
-both : (a b : Bool) → T (a && b) → T a × T b
+pub both : (a b : Bool) → T (a && b) → T a × T b
 both true b h = (tt, h)
 both false b h = absurd h
 
@@ -60,46 +61,51 @@ abbrev same_cells : (k n : ℕ) → Cells k → Cells k → Bool
 same_cells k n d e = every (λ u. every (λ v. same_cell k (d u v) (e u v)) n) n
 
 -- what that test says
-pub same_cells_from : (k n : ℕ) (d e : Cells k) → T (same_cells k n d e) → (u v : ℕ) → Pin n u → Pin n v → d u v ≡ e u v
+pub same_cells_from : (k n : ℕ) (d e : Cells k) → T (same_cells k n d e) → Agree k n d e
 same_cells_from k n d e h u v p q =
     let row : T (every (λ y. same_cell k (d u y) (e u y)) n) = every_at (λ x. every (λ y. same_cell k (d x y) (e x y)) n) n h u p in
     same_cell_from k (d u v) (e u v) (every_at (λ y. same_cell k (d u y) (e u y)) n row v q)
 
 -- whether u is one of the pins
-abbrev is_pin : ℕ → ℕ → Bool
+abbrev pub is_pin : ℕ → ℕ → Bool
 is_pin n u = leb 1 u && leb u n
 
 -- what that test says
-is_pin_from : (n u : ℕ) → T (is_pin n u) → Pin n u
+pub is_pin_from : (n u : ℕ) → T (is_pin n u) → Pin n u
 is_pin_from n u h = (grind (arith, nat_tests), grind (arith, nat_tests))
 
--- whether a record is fit, by its pins and by its ends
-abbrev fit_pins : {k : ℕ} → ℕ → Record k → Bool
-fit_pins n r = is_pin n r.first && (is_pin n r.second && not (eqb r.first r.second))
+-- whether both pins of a record are pins 1 to n
+abbrev pub is_on_pins : {k : ℕ} → ℕ → Record k → Bool
+is_on_pins n r = is_pin n r.first && is_pin n r.second
 
-abbrev fit_ends : (k : ℕ) → Record k → Bool
-fit_ends k r = (is_some r.low || is_some r.high) && not_above k r.low r.high
+-- what that test says
+pub on_pins_from : (k n : ℕ) (r : Record k) → T (is_on_pins n r) → OnPins k n r
+on_pins_from k n r h =
+    let g = both (is_pin n r.first) (is_pin n r.second) h in
+    record { first_pin = is_pin_from n r.first g.0; second_pin = is_pin_from n r.second g.1 }
 
-abbrev is_fit : (k n : ℕ) → Record k → Bool
-is_fit k n r = fit_pins n r && fit_ends k r
+-- whether all records of a list are
+abbrev are_on_pins : {k : ℕ} → ℕ → List (Record k) → Bool
+are_on_pins n [] = true
+are_on_pins n (r ∷ rs) = is_on_pins n r && are_on_pins n rs
 
--- what those tests say
-pub fit_from : (k n : ℕ) (r : Record k) → T (is_fit k n r) → Fit k n r
-fit_from k n r h =
-    let g = both (fit_pins n r) (fit_ends k r) h in
-    let pins = both (is_pin n r.first) (is_pin n r.second && not (eqb r.first r.second)) g.0 in
-    let other = both (is_pin n r.second) (not (eqb r.first r.second)) pins.1 in
-    let ends = both (is_some r.low || is_some r.high) (not_above k r.low r.high) g.1 in
-    record {
-      first_pin = is_pin_from n r.first pins.0;
-      second_pin = is_pin_from n r.second other.0;
-      two = λ e. rw (eq-eqb r.first r.second e) at other.1;
-      bounded = λ (e, f). rw (e, f) at ends.0;
-      forward = not_above_from k r.low r.high ends.1;
-    }
+-- what that test says
+pub all_on_pins_from : (k n : ℕ) (rs : List (Record k)) → T (are_on_pins n rs) → AllByRecursion (OnPins k n) rs
+all_on_pins_from k n [] h = tt
+all_on_pins_from k n (r ∷ rs) h =
+    let g = both (is_on_pins n r) (are_on_pins n rs) h in
+    (on_pins_from k n r g.0, all_on_pins_from k n rs g.1)
+
+-- whether low is not above high
+abbrev pub is_forward : (k : ℕ) → Record k → Bool
+is_forward k r = not_above k r.low r.high
+
+-- what that test says
+pub forward_from : (k : ℕ) (r : Record k) → T (is_forward k r) → Forward k r
+forward_from k r h = not_above_from k r.low r.high h
 
 -- whether a record is not refused
-abbrev is_taken : (k : ℕ) → Cells k → Record k → Bool
+abbrev pub is_taken : (k : ℕ) → Cells k → Record k → Bool
 is_taken k d r =
     not_above k r.low (range_high k d r.first r.second) && not_above k (range_low k d r.first r.second) r.high
 
@@ -108,27 +114,24 @@ pub taken_from : (k : ℕ) (d : Cells k) (r : Record k) → T (is_taken k d r) �
 taken_from k d r h (inl x) = x (not_above_from k r.low (range_high k d r.first r.second) (both _ _ h).0)
 taken_from k d r h (inr x) = x (not_above_from k (range_low k d r.first r.second) r.high (both _ _ h).1)
 
--- cells that agree with a table between the pins are one
-table_same :
-    (k n : ℕ) (rs : List (Record k)) (d e : Cells k) → Table k n rs d
-    → ((u v : ℕ) → Pin n u → Pin n v → d u v ≡ e u v) → Table k n rs e
-table_same k n rs d e t same = record {
-  least = λ u v p q. subst (LeastLength k rs u v) (same u v p q) (t.least u v p q);
-  diagonal = λ u p. sym (same u u p p) ∙ t.diagonal u p;
-}
+-- whether a record can be added, and e are the new cells
+abbrev is_added : (k n : ℕ) → Cells k → Record k → Cells k → Bool
+is_added k n d r e = is_on_pins n r && (is_forward k r && (is_taken k d r && same_cells k n (updated k d r) e))
 
--- a sheet with one record more, by tests: the record is fit and not refused, and e are the new cells
-pub sheet_more :
-    (k n : ℕ) (rs : List (Record k)) (d : Cells k) (r : Record k) (e : Cells k) → Sheet k n rs d
-    → T (is_fit k n r && (is_taken k d r && same_cells k n (updated k d r) e)) → Sheet k n (rs ++ r ∷ []) e
-sheet_more k n rs d r e s h =
-    let g = both (is_fit k n r) (is_taken k d r && same_cells k n (updated k d r) e) h in
-    let rest = both (is_taken k d r) (same_cells k n (updated k d r) e) g.1 in
-    let fit : Fit k n r = fit_from k n r g.0 in
-    let new : Table k n (rs ++ r ∷ []) (updated k d r) = the_update_is_the_table k n rs d r s.table fit (taken_from k d r rest.0) in
+-- a table with one record more, by that test
+pub table_more :
+    (k n : ℕ) (rs : List (Record k)) (d : Cells k) (r : Record k) (e : Cells k) → HasTable k n rs d
+    → T (is_added k n d r e) → HasTable k n (rs ++ r ∷ []) e
+table_more k n rs d r e s h =
+    let g = both (is_on_pins n r) (is_forward k r && (is_taken k d r && same_cells k n (updated k d r) e)) h in
+    let ends = both (is_forward k r) (is_taken k d r && same_cells k n (updated k d r) e) g.1 in
+    let rest = both (is_taken k d r) (same_cells k n (updated k d r) e) ends.1 in
+    let on : OnPins k n r = on_pins_from k n r g.0 in
     record {
-      fit = All-push (Fit k n) rs r s.fit fit;
-      table = table_same k n (rs ++ r ∷ []) (updated k d r) e new (same_cells_from k n (updated k d r) e rest.1);
+      on_pins = All-push (OnPins k n) rs r s.on_pins on;
+      table =
+          the_update_is_the_table k n rs d e r s.table on (forward_from k r ends.0) (taken_from k d r rest.0)
+          (same_cells_from k n (updated k d r) e rest.1);
     }
 
 -- whether t is the cell in row u of a column, and above none

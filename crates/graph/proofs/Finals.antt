@@ -4,11 +4,11 @@ use Rattle.std.specs.List.{ContainsAt, AllByRecursion}
 use Rattle.std.proofs.ByRecursion.{all_has_itself, All-weaker}
 use Rattle.std.proofs.lemmas.Bool.{cases_eq}
 use Rattle.kinds.specs.Rows.{Row, zeros, plus, Le}
-use Rattle.graph.specs.Schedules.{Pin, Schedule, Record, NotAbove, Meets, MeetsAll, Feasible, Fit}
+use Rattle.graph.specs.Schedules.{Pin, Schedule, Record, NotAbove, Meets, MeetsAll, Feasible, OnPins}
 use Rattle.graph.specs.Legs.{Leg, End, leg_of, Keeps}
 use Rattle.graph.specs.Tables.{Cells, Table, lesser, FinalTime}
 use Rattle.graph.specs.Laws.{OneFinalTime, FinalTimesMeetTheList}
-use Rattle.graph.proofs.Rows.{le_antisym, plus_zeros, minus_le_of_plus}
+use Rattle.kinds.proofs.Rows.{le_antisym, plus_zeros, minus_le_of_plus}
 use Rattle.graph.proofs.Lengths.{none_some, AtMost, at_most_some, at_most_row, le_at_most, lesser_cases, at_most_lesser_left, at_most_lesser_right}
 use Rattle.graph.proofs.Chains.{each_leg}
 use Rattle.graph.proofs.Least.{Reaches, LeastOn, reaches_append, least_reached, least_bound, least_zero}
@@ -94,31 +94,31 @@ module _ (k : ℕ) where
         let ends : P g.from × P g.to = each_leg k (λ x. P x.from × P x.to) r (λ l at-l. (pi, pj)) (λ l at-l. (pj, pi)) e g h in
         leg_kept r has e g ends.0 ends.1 h)
 
-  -- the schedule of the least of each column
-  abbrev pub earliest : Cells k → ℕ → ℕ → Schedule k
-  earliest d lo m v = unwrap_or (lowest (λ u. d u v) lo m) (zeros k)
+  -- the schedule of the least of each column, the latest of those that meet the list with no time above zero
+  abbrev pub latest : Cells k → ℕ → ℕ → Schedule k
+  latest d lo m v = unwrap_or (lowest (λ u. d u v) lo m) (zeros k)
 
   -- it meets all records between the pins of a table
-  pub earliest_meets :
-      (lo m : ℕ) (rs : List (Record k)) (d : Cells k) → LeastOn k (From lo m) rs d → AllByRecursion (Among lo m) rs → MeetsAll k (earliest d lo m) rs
-  earliest_meets lo m rs d least pins =
-      all_both (ContainsAt rs) (Among lo m) (Meets k (earliest d lo m))
-      (λ r has p. least_times_meet (From lo m) rs d least (earliest d lo m) times r has p.0 p.1) rs (all_has_itself rs) pins
+  pub latest_meets :
+      (lo m : ℕ) (rs : List (Record k)) (d : Cells k) → LeastOn k (From lo m) rs d → AllByRecursion (Among lo m) rs → MeetsAll k (latest d lo m) rs
+  latest_meets lo m rs d least pins =
+      all_both (ContainsAt rs) (Among lo m) (Meets k (latest d lo m))
+      (λ r has p. least_times_meet (From lo m) rs d least (latest d lo m) times r has p.0 p.1) rs (all_has_itself rs) pins
     where
-      times : (v : ℕ) → From lo m v → LeastIn (From lo m) (λ u. d u v) (earliest d lo m v)
+      times : (v : ℕ) → From lo m v → LeastIn (From lo m) (λ u. d u v) (latest d lo m v)
       times v q =
           let (t, at-t, low) = column_least (λ u. d u v) lo m v (zeros k) q (least_zero k rs v (d v v) (least v v q q)) in
           subst (LeastIn (From lo m) (λ u. d u v)) (sym (ap (λ (c : Option (Row k)). unwrap_or c (zeros k)) at-t)) low
 
-  -- the pins of fit records are some of n from 1 on
-  pub fit_pins : (n : ℕ) (rs : List (Record k)) → AllByRecursion (Fit k n) rs → AllByRecursion (Among 1 n) rs
-  fit_pins n rs fit =
-      All-weaker (Fit k n) (Among 1 n) (λ r f. (omega (arith, f.first_pin), omega (arith, f.second_pin))) rs fit
+  -- records on the pins 1 to n are among n from 1 on
+  pub pins_among : (n : ℕ) (rs : List (Record k)) → AllByRecursion (OnPins k n) rs → AllByRecursion (Among 1 n) rs
+  pins_among n rs on =
+      All-weaker (OnPins k n) (Among 1 n) (λ r f. (omega (arith, f.first_pin), omega (arith, f.second_pin))) rs on
 
-  -- fit records that have a table are met by some schedule
-  pub table_feasible : (n : ℕ) (rs : List (Record k)) (d : Cells k) → AllByRecursion (Fit k n) rs → Table k n rs d → Feasible k rs
-  table_feasible n rs d fit table =
-      (earliest d 1 n, earliest_meets 1 n rs d (λ u v p q. table.least u v (omega arith) (omega arith)) (fit_pins n rs fit))
+  -- records on the pins that have a table are met by some schedule
+  pub table_feasible : (n : ℕ) (rs : List (Record k)) (d : Cells k) → AllByRecursion (OnPins k n) rs → Table k n rs d → Feasible k rs
+  table_feasible n rs d on table =
+      (latest d 1 n, latest_meets 1 n rs d (λ u v p q. table.least u v (omega arith) (omega arith)) (pins_among n rs on))
 
   -- two final times of a pin are one
   final_unique : (n : ℕ) (d : Cells k) (v : ℕ) (s t : Row k) → FinalTime k n d v s → FinalTime k n d v t → s ≡ t
@@ -129,16 +129,16 @@ module _ (k : ℕ) where
 
 -- the least of the column
 pub one_final_time : OneFinalTime
-one_final_time k n rs d table v pin =
-    let (t, at-t, ((u, p, at-u), low)) = column_least k (λ u. d u v) 1 n v (zeros k) (omega arith) (table.diagonal v pin) in
+one_final_time k n d diagonal v pin =
+    let (t, at-t, ((u, p, at-u), low)) = column_least k (λ u. d u v) 1 n v (zeros k) (omega arith) (diagonal v pin) in
     let final : FinalTime k n d v t = record { reached = (u, omega arith, at-u); least = λ x q. low x (omega arith) } in
     (t, final, λ x f. final_unique k n d v x t f final)
 
 -- they are the least of each column, and the diagonal is zero
 pub final_times_meet_the_list : FinalTimesMeetTheList
-final_times_meet_the_list k n rs d t fit table final = (
-  all_both (ContainsAt rs) (Fit k n) (Meets k t)
+final_times_meet_the_list k n rs d t on table final = (
+  all_both (ContainsAt rs) (OnPins k n) (Meets k t)
       (λ r has f. least_times_meet k (Pin n) rs d table.least t (λ v p. ((final v p).reached, (final v p).least)) r has f.first_pin f.second_pin)
-      rs (all_has_itself rs) fit,
+      rs (all_has_itself rs) on,
   λ v p. le_at_most k (t v) (d v v) (zeros k) ((final v p).least v p) (at_most_some k (d v v) (zeros k) (table.diagonal v p)),
 )

@@ -5,9 +5,8 @@ use Rattle.kinds.specs.Rows.{Row, zeros, plus, opposite, minus, Le}
 use Rattle.graph.specs.Schedules.{Schedule, skew, Record, NotAbove, Meets, MeetsAll}
 use Rattle.graph.specs.Legs.{Leg, End, Low, High, leg_of, Keeps, Step, StepOf, Leads, length_of}
 use Rattle.graph.specs.Laws.{MeetingIsKeepingTheLegs}
-use Rattle.graph.proofs.Rows.{le_refl, le_trans, le_plus, le_plus_cancel, le_opposite, opposite_opposite, opposite_minus, plus_zeros}
-use Rattle.graph.proofs.Rows.{plus_assoc, le_plus_of_minus}
-use Rattle.graph.proofs.Chains.{each_leg, low_way, high_way, leg_of_low, leg_of_high}
+use Rattle.kinds.proofs.Rows.{le_refl, le_trans, le_plus, le_plus_cancel, le_opposite, opposite_opposite, opposite_minus, plus_zeros, plus_assoc, le_plus_of_minus}
+use Rattle.graph.proofs.Chains.{low_way, high_way, leg_of_low, leg_of_high, each_leg}
 use Rattle.graph.proofs.Least.{Reaches}
 use Rattle.graph.proofs.Unique.{each_step}
 

@@ -4,7 +4,7 @@ use Rattle.kinds.specs.Rows.{Row, zeros, plus, Le}
 use Rattle.graph.specs.Schedules.{Record}
 use Rattle.graph.specs.Legs.{Leg, End, leg_of, Step, Chain, length_of}
 use Rattle.graph.specs.Tables.{Cells, LeastLength}
-use Rattle.graph.proofs.Rows.{le_antisym, le_plus_cancel, plus_zeros}
+use Rattle.kinds.proofs.Rows.{le_antisym, le_plus_cancel, plus_zeros}
 use Rattle.graph.proofs.Lengths.{none_some, AtMost}
 use Rattle.graph.proofs.Chains.{chain_none, chain_append, length_of_append, chain_push, chain_last, last_step}
 

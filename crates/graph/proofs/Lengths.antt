@@ -5,9 +5,8 @@ use Rattle.std.specs.Ordering.{is_le}
 use Rattle.std.proofs.lemmas.Bool.{cond_both}
 use Rattle.kinds.specs.Rows.{Row, zeros, plus, opposite, order, Le}
 use Rattle.graph.specs.Schedules.{NotAbove}
-use Rattle.graph.specs.Tables.{lesser, greater, added, negated}
-use Rattle.graph.proofs.Rows.{le_refl, le_trans, le_total, le_or_not, le_plus, le_opposite, opposite_opposite, plus_comm, gap_of_le}
--- an absent value is not some value
+use Rattle.graph.specs.Tables.{lesser, greater, length_sum, negated}
+use Rattle.kinds.proofs.Rows.{le_refl, le_trans, le_total, le_or_not, le_plus, le_opposite, opposite_opposite, plus_comm, gap_of_le}
 pub use Rattle.std.proofs.lemmas.Option.{none-some as none_some}
 
 -- it is known which: A, or not A
@@ -70,22 +69,22 @@ module _ (k : ℕ) where
   at_most_lesser_right (Some x) (Some y) w h = le_trans k (cond (is_le (order k x y)) x y) y w (lesser_row x y).1 h
 
   -- bounds add up
-  pub at_most_added :
-      (a b : Option (Row k)) (x y : Row k) → AtMost k a x → AtMost k b y → AtMost k (added k a b) (plus k x y)
-  at_most_added None b x y p q = absurd p
-  at_most_added (Some v) None x y p q = absurd q
-  at_most_added (Some v) (Some w) x y p q = le_plus k v x w y p q
+  pub at_most_length_sum :
+      (a b : Option (Row k)) (x y : Row k) → AtMost k a x → AtMost k b y → AtMost k (length_sum k a b) (plus k x y)
+  at_most_length_sum None b x y p q = absurd p
+  at_most_length_sum (Some v) None x y p q = absurd q
+  at_most_length_sum (Some v) (Some w) x y p q = le_plus k v x w y p q
 
   -- the parts of a sum that is there
-  pub added_parts :
-      (a b : Option (Row k)) (w : Row k) → added k a b ≡ Some w → (x y : Row k) × (a ≡ Some x) × (b ≡ Some y) × (plus k x y ≡ w)
-  added_parts None b w e = absurd (none_some w e)
-  added_parts (Some x) None w e = absurd (none_some w e)
-  added_parts (Some x) (Some y) w e = (x, y, refl, refl, cc)
+  pub length_sum_parts :
+      (a b : Option (Row k)) (w : Row k) → length_sum k a b ≡ Some w → (x y : Row k) × (a ≡ Some x) × (b ≡ Some y) × (plus k x y ≡ w)
+  length_sum_parts None b w e = absurd (none_some w e)
+  length_sum_parts (Some x) None w e = absurd (none_some w e)
+  length_sum_parts (Some x) (Some y) w e = (x, y, refl, refl, cc)
 
   -- the parts of a sum of three that is at most w
   pub at_most_sum_parts :
-      (a b c : Option (Row k)) (w : Row k) → AtMost k (added k (added k a b) c) w
+      (a b c : Option (Row k)) (w : Row k) → AtMost k (length_sum k (length_sum k a b) c) w
       → (x y z : Row k) × (a ≡ Some x) × (b ≡ Some y) × (c ≡ Some z) × Le k (plus k (plus k x y) z) w
   at_most_sum_parts None b c w h = absurd h
   at_most_sum_parts (Some x) None c w h = absurd h
@@ -95,7 +94,7 @@ module _ (k : ℕ) where
   -- a sum of three from its parts
   pub at_most_sum :
       (a b c : Option (Row k)) (x y z w : Row k) → a ≡ Some x → b ≡ Some y → c ≡ Some z
-      → Le k (plus k (plus k x y) z) w → AtMost k (added k (added k a b) c) w
+      → Le k (plus k (plus k x y) z) w → AtMost k (length_sum k (length_sum k a b) c) w
   at_most_sum a b c x y z w e f g h = rw (e, f, g) h
 
   -- the opposite of the greater is the opposite of one of the two

@@ -1,13 +1,14 @@
-pub mod Rows
 pub mod Lengths
 pub mod Chains
 pub mod Least
 pub mod Updates
 pub mod Unique
+pub mod Agreement
 pub mod Tables
 pub mod Keeping
 pub mod Finals
 pub mod Closed
+pub mod Prefixes
 pub mod Ranges
 pub mod Pigeons
 pub mod Loops

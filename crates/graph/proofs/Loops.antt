@@ -6,7 +6,7 @@ use Rattle.std.proofs.lemmas.Bool.{cases_eq}
 use Rattle.kinds.specs.Rows.{plus}
 use Rattle.graph.specs.Schedules.{Record}
 use Rattle.graph.specs.Legs.{Step, StepOf, Leads, Chain, length_of, entered, NoneTwice}
-use Rattle.graph.proofs.Rows.{plus_assoc, plus_left_comm, plus_zeros}
+use Rattle.kinds.proofs.Rows.{plus_assoc, plus_left_comm, plus_zeros}
 
 -- a chain from u to v enters x, and falls there into two
 pub record Through (k : ℕ) (rs : List (Record k)) (u : ℕ) (ss : List (Step k)) (v x : ℕ) : Type 0 where

@@ -5,11 +5,11 @@ use Rattle.std.specs.List.{AllByRecursion}
 use Rattle.std.proofs.ByRecursion.{All-weaker, All-map}
 use Rattle.std.proofs.lemmas.List.{length-map}
 use Rattle.kinds.specs.Rows.{Row, zeros, plus, Le, Within}
-use Rattle.graph.specs.Schedules.{Pin, Record, Fit}
+use Rattle.graph.specs.Schedules.{Pin, Record, OnPins}
 use Rattle.graph.specs.Legs.{Step, StepOf, Chain, length_of, entered, NoneTwice}
 use Rattle.graph.specs.Tables.{EndsWithin, CellWithin}
 use Rattle.graph.specs.Laws.{CellsStayWithin, ARingHasAtMostNSteps}
-use Rattle.graph.proofs.Rows.{le_refl, le_trans, le_antisym, le_plus, zeros_plus, within_zeros, within_plus, within_opposite, within_upto}
+use Rattle.kinds.proofs.Rows.{le_refl, le_trans, le_antisym, le_plus, zeros_plus, within_zeros, within_plus, within_opposite, within_upto}
 use Rattle.graph.proofs.Chains.{each_leg}
 use Rattle.graph.proofs.Least.{least_reached, least_bound}
 use Rattle.graph.proofs.Unique.{each_step}
@@ -57,13 +57,13 @@ module _ (k : ℕ) (rs : List (Record k)) where
       by (inl once) (inl never) again = record { steps = ss; chain = c; once = (never, once); upto = le_refl k (length_of k ss) }
 
   -- each step enters a pin
-  entered_pins : (n : ℕ) → AllByRecursion (Fit k n) rs → (ss : List (Step k)) → AllByRecursion (StepOf k rs) ss → AllByRecursion (Pin n) (entered k ss)
-  entered_pins n fit ss taken = All-map (Pin n) (λ s. s.leg.to) ss (All-weaker (StepOf k rs) (λ s. Pin n s.leg.to) pin ss taken)
+  entered_pins : (n : ℕ) → AllByRecursion (OnPins k n) rs → (ss : List (Step k)) → AllByRecursion (StepOf k rs) ss → AllByRecursion (Pin n) (entered k ss)
+  entered_pins n on ss taken = All-map (Pin n) (λ s. s.leg.to) ss (All-weaker (StepOf k rs) (λ s. Pin n s.leg.to) pin ss taken)
     where
       pin : (s : Step k) → StepOf k rs s → Pin n s.leg.to
       pin =
-          each_step k (Fit k n) (λ g. Pin n g.to)
-          (λ r f. each_leg k (λ g. Pin n g.to) r (λ l at-l. f.second_pin) (λ l at-l. f.first_pin)) rs fit
+          each_step k (OnPins k n) (λ g. Pin n g.to)
+          (λ r f. each_leg k (λ g. Pin n g.to) r (λ l at-l. f.second_pin) (λ l at-l. f.first_pin)) rs on
 
   -- the length of a leg is as small as the ends are
   leg_within : (limit : ℕ) → AllByRecursion (EndsWithin k limit) rs → (s : Step k) → StepOf k rs s → Within k limit s.leg.length
@@ -82,16 +82,16 @@ module _ (k : ℕ) (rs : List (Record k)) where
 
 -- a cell is the length of a direct chain
 pub cells_stay_within : CellsStayWithin
-cells_stay_within k n limit rs d fit small table u v pu pv = by (d u v) refl
+cells_stay_within k n limit rs d on small table u v pu pv = by (d u v) refl
   where
     none : NoneShort k rs
-    none x ss c = let (t, met) = table_feasible k n rs d fit table in closed_kept k t rs x (length_of k ss) met (ss, c, refl)
+    none x ss c = let (t, met) = table_feasible k n rs d on table in closed_kept k t rs x (length_of k ss) met (ss, c, refl)
 
     cell : (w : Row k) → d u v ≡ Some w → Direct k rs u v w → Within k ((n - 1) * limit) w
     cell w e g =
         let ss : List (Step k) = g.steps in
         let few : suc (length (entered k ss)) ≤ n =
-        pins_at_most n (u ∷ entered k ss) g.once (pu, entered_pins k rs n fit ss g.chain.taken) in
+        pins_at_most n (u ∷ entered k ss) g.once (pu, entered_pins k rs n on ss g.chain.taken) in
         let count : length ss ≤ n - 1 = omega (arith, length-map ss (λ (s : Step k). s.leg.to)) in
         let least : Le k w (length_of k ss) =
         rw e at (least_bound k rs u v (d u v) (length_of k ss) (table.least u v pu pv) (ss, g.chain, refl)) in
@@ -107,7 +107,7 @@ cells_stay_within k n limit rs d fit small table u v pu pv = by (d u v) refl
 
 -- it enters each pin once at most
 pub a_ring_has_at_most_n_steps : ARingHasAtMostNSteps
-a_ring_has_at_most_n_steps k n rs ss fit ring =
+a_ring_has_at_most_n_steps k n rs ss on ring =
     let (u, chain) = ring.closed in
-    let few : length (entered k ss) ≤ n = pins_at_most n (entered k ss) ring.once (entered_pins k rs n fit ss chain.taken) in
+    let few : length (entered k ss) ≤ n = pins_at_most n (entered k ss) ring.once (entered_pins k rs n on ss chain.taken) in
     omega (arith, length-map ss (λ (s : Step k). s.leg.to))

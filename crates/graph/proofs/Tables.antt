@@ -7,6 +7,7 @@ use Rattle.graph.specs.Tables.{Cells, Table, LeastLength, no_bounds, range_low, 
 use Rattle.graph.specs.Laws.{NoRecordsHaveATable, TheUpdateIsTheTable}
 use Rattle.graph.proofs.Lengths.{Decided, none_some, at_most_some, not_above_or_above}
 use Rattle.graph.proofs.Least.{Reaches, LeastOn, least_from, least_zero}
+use Rattle.graph.proofs.Agreement.{table_agrees}
 use Rattle.graph.proofs.Updates.{LowFits, HighFits, updated_least}
 
 module _ (k : ℕ) where
@@ -40,16 +41,18 @@ module _ (k : ℕ) where
   )
 
   -- least lengths between pins are a table: its diagonal is zero
-  table_from : (n : ℕ) (rs : List (Record k)) (d : Cells k) → LeastOn k (Pin n) rs d → Table k n rs d
+  pub table_from : (n : ℕ) (rs : List (Record k)) (d : Cells k) → LeastOn k (Pin n) rs d → Table k n rs d
   table_from n rs d f = record { least = f; diagonal = λ u p. least_zero k rs u (d u u) (f u u p p) }
 
 -- zero and absent
 pub no_records_have_a_table : NoRecordsHaveATable
-no_records_have_a_table k n = table_from k n [] (no_bounds k) (λ u v p q. no_bounds_least k u v)
+no_records_have_a_table k n d same =
+    table_agrees k n (no_bounds k) d same [] (table_from k n [] (no_bounds k) (λ u v p q. no_bounds_least k u v))
 
 -- the update law at the pins 1 to n
 pub the_update_is_the_table : TheUpdateIsTheTable
-the_update_is_the_table k n rs d r t fit h =
+the_update_is_the_table k n rs d e r t on forward h same =
     let fits = not_refused k d r h in
-    table_from k n (rs ++ r ∷ []) (updated k d r)
-    (updated_least k (Pin n) rs d t.least r fit.first_pin fit.second_pin fit.forward fits.0 fits.1)
+    table_agrees k n (updated k d r) e same (rs ++ r ∷ [])
+    (table_from k n (rs ++ r ∷ []) (updated k d r)
+    (updated_least k (Pin n) rs d t.least r on.first_pin on.second_pin forward fits.0 fits.1))

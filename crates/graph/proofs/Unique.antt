@@ -7,7 +7,7 @@ use Rattle.graph.specs.Schedules.{Record}
 use Rattle.graph.specs.Legs.{Leg, End, leg_of, Step, leg_at, StepOf, Leads, length_of}
 use Rattle.graph.specs.Tables.{LeastLength}
 use Rattle.graph.specs.Laws.{TablesAreUnique}
-use Rattle.graph.proofs.Rows.{le_antisym}
+use Rattle.kinds.proofs.Rows.{le_antisym}
 use Rattle.graph.proofs.Lengths.{none_some}
 use Rattle.graph.proofs.Least.{Reaches, least_reached, least_bound, least_from}
 

@@ -8,12 +8,11 @@ use Rattle.std.proofs.Math.Logic.{⊎_swap, ⊎_map}
 use Rattle.kinds.specs.Rows.{Row, zeros, plus, opposite, Le}
 use Rattle.graph.specs.Schedules.{Record, NotAbove}
 use Rattle.graph.specs.Legs.{Leg, End, Low, High, leg_of, Step, StepOf, Leads, Chain, length_of}
-use Rattle.graph.specs.Tables.{Cells, negated, lesser, added, range_low, range_high, cut_low, cut_high, updated}
-use Rattle.graph.proofs.Rows.{le_plus, le_by, plus_assoc, plus_comm, plus_left_comm, plus_zeros, zeros_plus}
+use Rattle.graph.specs.Tables.{Cells, negated, lesser, length_sum, range_low, range_high, cut_low, cut_high, updated}
+use Rattle.kinds.proofs.Rows.{le_plus, le_by, plus_assoc, plus_comm, plus_left_comm, plus_zeros, zeros_plus}
 use Rattle.graph.proofs.Lengths.{AtMost, mapped_some, lesser_cases, negated_cases, negated_negated, not_above_gap, negated_not_above_gap}
-use Rattle.graph.proofs.Lengths.{at_most_negated, at_most_lesser_left, at_most_lesser_right, added_parts, at_most_row, at_most_le}
-use Rattle.graph.proofs.Lengths.{at_most_some, at_most_added, at_most_sum, at_most_sum_parts}
-use Rattle.graph.proofs.Chains.{each_leg, low_way, high_way, leg_of_low, leg_of_high, chain_none, chain_append, length_of_append, leg_at_cases}
+use Rattle.graph.proofs.Lengths.{at_most_negated, at_most_lesser_left, at_most_lesser_right, length_sum_parts, at_most_row, at_most_le, at_most_some, at_most_length_sum, at_most_sum, at_most_sum_parts}
+use Rattle.graph.proofs.Chains.{low_way, high_way, leg_of_low, leg_of_high, chain_none, chain_append, length_of_append, leg_at_cases, each_leg}
 use Rattle.graph.proofs.Least.{Reaches, LeastOn, reaches_append, reaches_push, reaches_last, least_reached, least_bound, least_zero, least_from}
 
 -- the low end is not above the range of the record's pins
@@ -47,7 +46,7 @@ module _ (k : ℕ) where
 
   -- from u to i by a cell, over a leg to j, and on to v by a cell
   abbrev over : Cells k → ℕ → ℕ → Option (Row k) → ℕ → ℕ → Option (Row k)
-  over d u i a j v = added k (added k (d u i) a) (d j v)
+  over d u i a j v = length_sum k (length_sum k (d u i) a) (d j v)
 
   module _ (P : ℕ → Type 0) (rs : List (Record k)) (d : Cells k) (least : LeastOn k P rs d) where
     -- cells add up over a pin between
@@ -70,7 +69,7 @@ module _ (k : ℕ) where
         → AtMost k (d u i) p → Matched i j a b j v q → Matched i j a b u v (plus k p (plus k g q))
     matched_over i j a b u v g p q pu pi pj pv new back both before (inl h) =
         let way : AtMost k (over d u i a j v) (plus k (plus k p g) q) =
-        at_most_added k (added k (d u i) a) (d j v) (plus k p g) q (at_most_added k (d u i) a p g before new) h in
+        at_most_length_sum k (length_sum k (d u i) a) (d j v) (plus k p g) q (at_most_length_sum k (d u i) a p g before new) h in
         inr (inl (rw (← plus_assoc k p g q) way))
     matched_over i j a b u v g p q pu pi pj pv new back both before (inr (inl h)) =
         let (z, at-z, l) = at_most_row k (d u i) p before in
@@ -189,8 +188,8 @@ module _ (k : ℕ) where
           (u i j v : ℕ) (a : Option (Row k)) (w : Row k) → P u → P i → P j → P v
           → ((x : Row k) → a ≡ Some x → Reaches k (rs ++ r ∷ []) i j x) → over d u i a j v ≡ Some w → Reaches k (rs ++ r ∷ []) u v w
       reached_over u i j v a w pu pi pj pv between e =
-          let (xy, z, at-xy, at-z, sum) = added_parts k (added k (d u i) a) (d j v) w e in
-          let (x, y, at_x, at_y, part) = added_parts k (d u i) a xy at-xy in
+          let (xy, z, at-xy, at-z, sum) = length_sum_parts k (length_sum k (d u i) a) (d j v) w e in
+          let (x, y, at_x, at_y, part) = length_sum_parts k (d u i) a xy at-xy in
           let one : Reaches k (rs ++ r ∷ []) u j (plus k x y) =
           reaches_append k (rs ++ r ∷ []) u i j x y (reached_old u i x pu pi at_x) (between y at_y) in
           let all : Reaches k (rs ++ r ∷ []) u v (plus k (plus k x y) z) =

@@ -1,5 +1,5 @@
--- Legs of records, and the chains and rings that they make. Assumes nothing.
---     Leg k                   a way from one pin to another, with its length
+-- Legs of records, and the chains and rings that they make: the constraint graph, with the pins as its nodes. Assumes nothing.
+--     Leg k                   a way from one pin to another, with its length: an edge of the graph, with its weight
 --     End                     which end of a record: the low or the high one
 --     leg_of k r e            the leg that an end gives: low leads from first to second with length −low,
 --                             high from second to first with length high; absent where the end is
@@ -8,11 +8,11 @@
 --     leg_at k rs p e         the leg that an end of record p of a list gives
 --     StepOf k rs s           the step's leg is what its record and end give
 --     Leads k u ss v          the steps join head to tail from u to v
---     Chain k rs u ss v       they do, and each is one of the list
+--     Chain k rs u ss v       they do, and each is one of the list: a path, which may pass a pin twice
 --     length_of k ss          the sum of their lengths
 --     entered k ss            the pins that they enter, in turn
 --     NoneTwice us            no pin stands twice
---     Ring k rs ss            a closed chain that enters no pin twice and is shorter than zero
+--     Ring k rs ss            a closed chain that enters no pin twice and is shorter than zero: a simple cycle of negative length
 use Rattle.std.specs.Prelude.{◌≡◌, ℕ, zero, suc, List, [], ◌∷◌, map, Some, None, Option, ◌≢◌}
 use Rattle.kinds.specs.Rows.{Row, zeros, plus, minus, opposite, Le}
 use Rattle.std.specs.Option.{option_map}

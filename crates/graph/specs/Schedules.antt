@@ -2,15 +2,17 @@
 --     Pin n u                 u is one of the pins 1 to n
 --     Schedule k              a time for each pin, as a row of k numbers
 --     skew k t i j            the time of i less the time of j
---     Record k                a bound on the skew of two pins: a low end, a high end, or both
+--     Record k                a bound on the skew of two pins, by a low end, a high end, both or none: a difference constraint
 --     NotAbove k a b          a is not above b, where both are there
 --     Inside k low high s     s is neither below low nor above high; an absent end excludes none
---     Meets k t r             the skew of the record's pins is inside its ends
---     MeetsAll k t rs         the schedule meets each record of the list
---     Feasible k rs           some schedule meets them all
+--     Meets k t r             the skew of the record's pins is inside its ends: the schedule satisfies the constraint
+--     MeetsAll k t rs         the schedule meets each record of the list: it is a solution of the constraints
+--     Feasible k rs           some schedule meets them all: the constraints are satisfiable
+--     FeasibleWith k rs r     some schedule meets them all and the record r too
 --     LeastConflict k rs m    m is the least number such that no schedule meets records 1 to m
---     Fit k n r               the pins are two of 1 to n, an end is there, and low is not above high
-use Rattle.std.specs.Prelude.{◌≡◌, ℕ, ◌<◌, ◌≤◌, List, take, Some, None, Option}
+--     OnPins k n r            both pins of the record are pins 1 to n; they may be one pin
+--     Forward k r             low is not above high, where both are there
+use Rattle.std.specs.Prelude.{ℕ, ◌<◌, ◌≤◌, List, take, Some, None, Option}
 use Rattle.kinds.specs.Rows.{Row, minus, Le}
 use Rattle.std.specs.List.{AllByRecursion}
 
@@ -47,13 +49,16 @@ MeetsAll k t rs = AllByRecursion (Meets k t) rs
 abbrev pub Feasible : (k : ℕ) → List (Record k) → Type 0
 Feasible k rs = (t : Schedule k) × MeetsAll k t rs
 
+abbrev pub FeasibleWith : (k : ℕ) → List (Record k) → Record k → Type 0
+FeasibleWith k rs r = (t : Schedule k) × MeetsAll k t rs × Meets k t r
+
 pub record LeastConflict (k : ℕ) (rs : List (Record k)) (m : ℕ) : Type 0 where
-  pub here : Feasible k (take m rs) → ⊥
+  pub unmet : Feasible k (take m rs) → ⊥
   pub before : (l : ℕ) → l < m → Feasible k (take l rs)
 
-pub record Fit (k n : ℕ) (r : Record k) : Type 0 where
+pub record OnPins (k n : ℕ) (r : Record k) : Type 0 where
   pub first_pin : Pin n r.first
   pub second_pin : Pin n r.second
-  pub two : r.first ≡ r.second → ⊥
-  pub bounded : (r.low ≡ None) × (r.high ≡ None) → ⊥
-  pub forward : NotAbove k r.low r.high
+
+abbrev pub Forward : (k : ℕ) → Record k → Type 0
+Forward k r = NotAbove k r.low r.high

@@ -2,11 +2,16 @@
 #![tactic(auto)]
 
 ghost use Rattle.graph.specs.Examples.{WorkedExamplesHold};
-ghost use Rattle.graph.specs.Laws.{MeetingIsKeepingTheLegs, TablesAreUnique, NoRecordsHaveATable, TheUpdateIsTheTable, RefusedExactlyWhenNoSchedule, TheFirstRefusedIsTheLeastConflict, ARangeIsWhatSchedulesHave, OneFinalTime, FinalTimesMeetTheList, CellsStayWithin, NoScheduleExactlyWhenARing, ARingHasAtMostNSteps};
+ghost use Rattle.graph.specs.Laws.{MeetingIsKeepingTheLegs, CellsThatAgreeAreOne, TablesAreUnique, NoRecordsHaveATable, TheUpdateIsTheTable, ATableOrALeastConflict, RefusedExactlyWhenNoSchedule, TheFirstRefusedIsTheLeastConflict, ARangeIsWhatSchedulesHave, OneFinalTime, FinalTimesMeetTheList, CellsStayWithin, NoScheduleExactlyWhenARing, NoScheduleWithARecordExactlyWhenARing, ARingHasAtMostNSteps};
 
 // A schedule meets a record exactly when it keeps the record's legs.
 pub fn meeting_is_keeping_the_legs()
     ensures meets { MeetingIsKeepingTheLegs }
+{}
+
+// What is read from cells is the same of any cells that agree with them between the pins.
+pub fn cells_that_agree_are_one()
+    ensures one { CellsThatAgreeAreOne }
 {}
 
 // Lists with the same records, in any order and however often, have one table.
@@ -19,9 +24,14 @@ pub fn no_records_have_a_table()
     ensures table { NoRecordsHaveATable }
 {}
 
-// With a fit record added that is not refused, the formula turns the table of a list into that of the longer list.
+// With a record added that is not refused, the formula turns the table of a list into that of the longer list.
 pub fn the_update_is_the_table()
     ensures table { TheUpdateIsTheTable }
+{}
+
+// Any list has a table, or a least conflict with a table before it.
+pub fn a_table_or_a_least_conflict()
+    ensures either { ATableOrALeastConflict }
 {}
 
 // Given the table, a record is refused exactly when no schedule meets the list and the record.
@@ -39,7 +49,7 @@ pub fn a_range_is_what_schedules_have()
     ensures range { ARangeIsWhatSchedulesHave }
 {}
 
-// Given the table, each pin has one final time.
+// Where the diagonal is zero, by a table or not, each pin has one final time.
 pub fn one_final_time()
     ensures unique { OneFinalTime }
 {}
@@ -57,6 +67,11 @@ pub fn cells_stay_within()
 // A list has a ring exactly when no schedule meets it, so there is always a ring to show.
 pub fn no_schedule_exactly_when_a_ring()
     ensures ring { NoScheduleExactlyWhenARing }
+{}
+
+// A proposed record that no schedule meets with the list has a ring to show, over the list with it put before.
+pub fn no_schedule_with_a_record_exactly_when_a_ring()
+    ensures ring { NoScheduleWithARecordExactlyWhenARing }
 {}
 
 // A ring of records on n pins has no more steps than pins.

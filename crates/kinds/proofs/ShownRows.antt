@@ -1,5 +1,6 @@
 -- Rows that columns show, from their fields. Assumes nothing.
-use Rattle.std.proofs.Common.{◌≡◌, ℕ, suc, ◌≤◌, List, ◌++◌, length, take, drop, ℤ, ap, arith, length-append, length-drop, length-take}
+use Rattle.std.proofs.Common.{◌≡◌, ℕ, zero, suc, ◌≤◌, List, ◌++◌, length, take, drop, ℤ, refl, ap, ap₂, arith, length-append, length-drop, length-take}
+use Rattle.columns.proofs.Shown.{one_number}
 use Rattle.kinds.specs.Kinds.{field, ShowsRow}
 use Rattle.kinds.specs.Numbers.{ShowsNumber}
 use Rattle.kinds.specs.Rows.{Row}
@@ -37,3 +38,10 @@ row_more k front back z r first more = (
   rw (take_at front back 12 first.0) first.1,
   rw (drop_at front back 12 first.0) more,
 )
+
+-- Columns show one row at most.
+pub one_row : (k : ℕ) (columns : List ℕ) (r r' : Row k) → ShowsRow k columns r → ShowsRow k columns r' → r ≡ r'
+one_row zero columns r r' h g = refl
+one_row (suc k) columns r r' h g =
+    ap₂ (λ (z : ℤ) (more : Row k). (z, more)) (one_number (take field columns) r.0 r'.0 h.1 g.1)
+    (one_row k (drop field columns) r.1 r'.1 h.2 g.2)

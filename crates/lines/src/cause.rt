@@ -1,12 +1,12 @@
-// Why a sheet cannot be read, by number and in words, and the layer of the format to which each cause belongs.
+// Why a text cannot be read as a sheet, by number and in words, and the layer to which each cause belongs.
 ghost use Rattle.std.specs.Prelude.{◌≡◌, Some};
-ghost use Rattle.lines.specs.Causes.{cause_number, layer_number, layer_of, words};
+ghost use Rattle.lines.specs.Causes.{text_cause_number, layer_number, text_layer, cause_words};
 
 use std::error::Error;
 use std::fmt;
 
 #[derive(Clone, Copy, Debug, PartialEq, Eq)]
-pub enum Cause {
+pub enum TextCause {
     // The text is longer than a sheet may be.
     Length = 30,
     // The last line lacks its newline.
@@ -26,43 +26,46 @@ pub enum Layer {
     Field = 1,
     Line = 2,
     Sheet = 3,
+    // A call on the sheet that was read.
+    Call = 4,
 }
 
-impl Cause {
+impl TextCause {
     // One cast, under a name that stands: `From` would be no plainer.
     pub fn number(self) -> u8
-        ensures value { result ≡ cause_number self }
+        ensures value { result ≡ text_cause_number self }
     {
         self as u8
     }
 
     pub fn layer(self) -> Layer
-        ensures value { result ≡ layer_of self }
+        ensures value { result ≡ text_layer self }
     {
         match self {
-            Cause::Field => Layer::Field,
-            Cause::Layout => Layer::Line,
-            Cause::Length | Cause::Newline | Cause::Turn | Cause::Count => Layer::Sheet,
+            TextCause::Field => Layer::Field,
+            TextCause::Layout => Layer::Line,
+            TextCause::Length | TextCause::Newline | TextCause::Turn | TextCause::Count =>
+                Layer::Sheet,
         }
     }
 }
 
-impl fmt::Display for Cause {
-    ghost output = { λ c. Some (words c) };
+impl fmt::Display for TextCause {
+    ghost output = { λ c. Some (cause_words c) };
 
     fn fmt<W: fmt::Write>(&self, f: &mut fmt::Formatter<W>) -> fmt::Result {
         f.write_str(match self {
-            Cause::Length => "the text has more than 32768 bytes",
-            Cause::Newline => "the last line lacks its newline",
-            Cause::Layout => "unknown letter, or columns not as laid out",
-            Cause::Turn => "line out of turn, or no N line",
-            Cause::Count => "the count of numbers is not the kind's",
-            Cause::Field => "a field is not a number",
+            TextCause::Length => "the text has more than 32768 bytes",
+            TextCause::Newline => "the last line lacks its newline",
+            TextCause::Layout => "unknown letter, or columns not as laid out",
+            TextCause::Turn => "line out of turn, or no N line",
+            TextCause::Count => "the count of numbers is not the kind's",
+            TextCause::Field => "a field is not a number",
         })
     }
 }
 
-impl Error for Cause {}
+impl Error for TextCause {}
 
 impl Layer {
     // One cast, as for a cause.

@@ -1,13 +1,13 @@
 // What is asked of a line that is laid out: its turn, its numbers, and the kind's count on an N line.
-ghost use Rattle.std.specs.Prelude.{◌≡◌, ◌≤◌, length, replicate, pos, Decides};
-ghost use Rattle.columns.specs.Columns.{Shows};
-ghost use Rattle.lines.specs.Lines.{InTurn, Number, End, Numbers, OwnCount, RecordNumbers};
-ghost use Rattle.lines.specs.Checks.{Checked};
+ghost use Rattle.std.specs.Prelude.{◌≡◌, ◌≤◌, pos, Decides};
+ghost use Rattle.lines.specs.Lines.{InTurn, IsPin, IsEnd, Numbers, OwnCount, RecordNumbers};
+ghost use Rattle.lines.specs.Checks.{Judged, OneAnswer};
+ghost use Rattle.lines.specs.Fields.{ShowsPin};
 
-use crate::cause::Cause;
+use crate::cause::TextCause;
+use crate::field::{end, pin};
 use crate::layout::taken_apart;
 use crate::line::{Letter, Line, RecordFields};
-use columns::Unread;
 use kinds::time::{Time, Written};
 
 fn in_turn(last: Option<Letter>, next: Letter) -> bool
@@ -19,32 +19,23 @@ fn in_turn(last: Option<Letter>, next: Letter) -> bool
     }
 }
 
-fn is_number(columns: &[u8]) -> bool
-    ensures { Decides result (Number columns.now) }
+fn is_pin(columns: &[u8]) -> bool
+    ensures { Decides result (IsPin columns.now) }
 {
-    match columns::read(columns) {
-        Ok(_) | Err(Unread::TooLarge) => true,
-        Err(Unread::NoNumber) => false,
-    }
-}
-
-fn is_blank(columns: &[u8]) -> bool
-    ensures { Decides result (columns.now ≡ replicate (length columns.now) 32) }
-{
-    columns.iter().all(|byte| *byte == b' ')
+    pin(columns).is_ok()
 }
 
 fn is_end<T: Written>(columns: &[u8]) -> bool
-    ensures { Decides result (End T.Time.COUNT columns.now) }
+    ensures { Decides result (IsEnd T.Time.COUNT columns.now) }
 {
-    is_blank(columns) || T::read(columns).is_some()
+    end::<T>(columns).is_ok()
 }
 
 fn are_record_numbers<T: Written>(fields: &RecordFields) -> bool
     ensures { Decides result (RecordNumbers T.Time.COUNT fields.now) }
 {
-    is_number(fields.first)
-        && is_number(fields.second)
+    is_pin(fields.first)
+        && is_pin(fields.second)
         && is_end::<T>(fields.low)
         && is_end::<T>(fields.high)
 }
@@ -53,8 +44,8 @@ fn are_numbers<T: Written>(line: &Line) -> bool
     ensures { Decides result (Numbers T.Time.COUNT line.now) }
 {
     match line {
-        Line::Pins { pins, count, .. } => is_number(pins) && is_number(count),
-        Line::Name { pin, .. } => is_number(pin),
+        Line::Pins { pins, count, .. } => is_pin(pins) && is_pin(count),
+        Line::Name { pin, .. } => is_pin(pin),
         Line::Constraint { fields, .. } | Line::Commit { fields, .. } => are_record_numbers::<T>(
             fields,
         ),
@@ -62,9 +53,9 @@ fn are_numbers<T: Written>(line: &Line) -> bool
 }
 
 fn is_count<T: Time>(columns: &[u8]) -> bool
-    ensures { Decides result (Shows columns.now (pos T.COUNT)) }
+    ensures { Decides result (ShowsPin columns.now (pos T.COUNT)) }
 {
-    columns::read(columns) == Ok(T::COUNT as i64)
+    pin(columns) == Ok(T::COUNT as i64)
 }
 
 fn has_own_count<T: Time>(line: &Line) -> bool
@@ -76,23 +67,30 @@ fn has_own_count<T: Time>(line: &Line) -> bool
     }
 }
 
+fn judge<T: Written>(bytes: &[u8], line: usize, last: Option<Letter>) -> Result<Line<'_>, TextCause>
+    ensures { Judged T.Time.COUNT last line bytes.now result }
+{
+    let taken = taken_apart::<T>(bytes, line).ok_or(TextCause::Layout)?;
+    if !in_turn(last, taken.letter()) {
+        return Err(TextCause::Turn);
+    }
+    if !are_numbers::<T>(&taken) {
+        return Err(TextCause::Field);
+    }
+    if !has_own_count::<T>(&taken) {
+        return Err(TextCause::Count);
+    }
+    Ok(taken)
+}
+
 // The line numbered `line` that the bytes are, after one with the letter `last`; or the first cause by which they are none.
 pub fn checked_line<T: Written>(
     bytes: &[u8],
     line: usize,
     last: Option<Letter>,
-) -> Result<Line<'_>, Cause>
-    ensures checked { Checked T.Time.COUNT last line bytes.now result }
+) -> Result<Line<'_>, TextCause>
+    ensures judged { Judged T.Time.COUNT last line bytes.now result }
+    ensures one_answer { OneAnswer T.Time.COUNT }
 {
-    let taken = taken_apart::<T>(bytes, line).ok_or(Cause::Layout)?;
-    if !in_turn(last, taken.letter()) {
-        return Err(Cause::Turn);
-    }
-    if !are_numbers::<T>(&taken) {
-        return Err(Cause::Field);
-    }
-    if !has_own_count::<T>(&taken) {
-        return Err(Cause::Count);
-    }
-    Ok(taken)
+    judge::<T>(bytes, line, last)
 }

@@ -2,11 +2,9 @@
 ghost use Rattle.std.specs.Prelude.{◌≡◌, ◌≤◌};
 ghost use Rattle.lines.specs.Lines.{Apart, LettersApart, RecordApart};
 
+use crate::field::PIN;
 use crate::line::{Line, RecordFields};
 use kinds::time::{FIELD, Time};
-
-// How many columns a pin has, and each number of an N line.
-const PIN: usize = 4;
 
 // The fields of an R or C line, from what follows its letter.
 fn record_fields<T: Time>(rest: &[u8]) -> Option<RecordFields<'_>>

@@ -4,5 +4,6 @@
 
 pub mod cause;
 pub mod checks;
+pub mod field;
 mod layout;
 pub mod line;

@@ -1,6 +1,6 @@
 // A line of a sheet, taken apart: its number in the text, and its fields, which are parts of the text.
 ghost use Rattle.std.specs.Prelude.{◌≡◌};
-ghost use Rattle.lines.specs.Lines.{letter};
+ghost use Rattle.lines.specs.Lines.{letter, number};
 
 // The letter with which a line begins, in the order in which a sheet has them.
 #[derive(Clone, Copy, Debug, PartialEq, Eq, PartialOrd, Ord)]
@@ -47,6 +47,18 @@ pub enum Line<'a> {
 }
 
 impl Line<'_> {
+    // The line's number in the text, counted from 1.
+    pub fn number(&self) -> usize
+        ensures value { result ≡ number self.now }
+    {
+        match self {
+            Line::Pins { line, .. }
+            | Line::Name { line, .. }
+            | Line::Constraint { line, .. }
+            | Line::Commit { line, .. } => *line,
+        }
+    }
+
     pub fn letter(&self) -> Letter
         ensures value { result ≡ letter self.now }
     {

@@ -1,7 +1,7 @@
 // A program's input, of which no more is kept than tells that it is above a limit.
 ghost use Rattle.std.specs.Prelude.{◌≡◌, IfOk, IfSome, OnOk};
 ghost use Rattle.std.specs.Io.KnownBytes.{IsAtEnd};
-ghost use Rattle.programs.specs.Inputs.{kept, kept_for, Within, ReadFor, Left};
+ghost use Rattle.programs.specs.Inputs.{kept, kept_for, Bounded, ReadFor, Left};
 
 use crate::request::Request;
 use std::alloc::Global;
@@ -11,7 +11,7 @@ use std::io::Read;
 // Reads to the end, so that what writes the input is not cut off.
 #[tactic(auto, using(crate::proofs::Keeping::kept_first))]
 pub fn read_limited<R: Read>(source: &mut R, limit: u32, heap: Global) -> io::Result<Vec<u8>>
-    ensures bound { IfOk result (λ v. Within limit v.items) }
+    ensures bound { IfOk result (λ v. Bounded limit v.items) }
     ensures first { IfOk result (λ v. IfSome (R.remaining source.old) (λ bytes. v.items ≡ kept limit bytes)) }
     ensures at_end { OnOk result (IsAtEnd (R.remaining source.new)) }
 {

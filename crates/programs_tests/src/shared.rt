@@ -1,10 +1,9 @@
 // What all programs share: words, input with a limit, and delivery.
+use crate::streams::{Halting, with_room};
 use programs::answer::{Answer, deliver};
 use programs::input::{read_for, read_limited};
 use programs::request::{Kind, Request, asked};
 use std::alloc::{AllocError, Global};
-use std::io;
-use std::io::{ErrorKind, Read, Write};
 use std::test::Fail;
 
 const LIMIT: u32 = 32_768;
@@ -79,24 +78,6 @@ fn input_is_kept_up_to_the_limit_and_one(rt: HostRuntime) -> Result<(), Fail> {
     Ok(())
 }
 
-// Gives three bytes at a time, and is interrupted before each.
-#[derive(Drop)]
-struct Halting<'a> {
-    rest: &'a [u8],
-    halts: bool,
-}
-
-impl<'a> Read for Halting<'a> {
-    fn read(&mut self, buf: &mut [u8]) -> io::Result<usize> {
-        self.halts = !self.halts;
-        if self.halts {
-            return Err(io::Error::from(ErrorKind::Interrupted));
-        }
-        let room = buf.len().min(3);
-        self.rest.read(&mut buf[..room])
-    }
-}
-
 #[test]
 fn an_interrupted_source_is_read_on(rt: HostRuntime) -> Result<(), Fail> {
     let heap = rt.alloc();
@@ -122,33 +103,6 @@ fn only_a_run_reads(rt: HostRuntime) -> Result<(), Fail> {
     let all = read_for(Request::Run(Kind::Plain), &mut source, LIMIT, heap)?;
     assert!(rt; all.as_slice() == b"abc".as_slice());
     Ok(())
-}
-
-// Takes three bytes at a time, and has room for so many.
-#[derive(Drop)]
-struct Narrow {
-    got: Vec<u8>,
-    room: usize,
-}
-
-impl Write for Narrow {
-    fn write(&mut self, buf: &[u8]) -> io::Result<usize> {
-        let count = buf.len().min(3).min(self.room);
-        self.got.extend_from_slice(&buf[..count])?;
-        self.room -= count;
-        Ok(count)
-    }
-
-    fn flush(&mut self) -> io::Result<()> {
-        Ok(())
-    }
-}
-
-fn with_room(heap: Global, room: usize) -> Narrow {
-    Narrow {
-        got: Vec::new(heap),
-        room,
-    }
 }
 
 fn answer(heap: Global, failed: bool) -> Result<Answer, AllocError> {

@@ -1,4 +1,5 @@
 pub mod FaultLines
 pub mod Readings
 pub mod Tellings
+pub mod OneTelling
 pub mod Surveys

@@ -1,7 +1,6 @@
 -- Why a survey counts the lines of the sheet. Assumes nothing.
-use Rattle.std.proofs.Common.{◌≡◌, ℕ, ◌+◌, ◌<◌, ◌≤◌, cond, List, [], ◌∷◌, ◌++◌, length, ℤ, pos, Some, None, Ok, Err, Option, sym, refl, ap, ◌∙◌, subst, append_assoc, append-nil, arith, length-append}
-use Rattle.columns.proofs.Sizes.{sfits_shows}
-use Rattle.columns.specs.Columns.{Shows}
+use Rattle.std.proofs.Common.{◌≡◌, ℕ, ◌+◌, ◌<◌, ◌≤◌, cond, List, [], ◌∷◌, ◌++◌, length, ℤ, pos, Some, None, Ok, Err, Option, sym, refl, ap, ◌∙◌, subst, append_assoc, append-nil, arith, length-append, Bor}
+use Rattle.lines.specs.Fields.{ShowsPin}
 use Rattle.lines.specs.Lines.{InTurn}
 use Rattle.reader.specs.Readings.{Begun, HandsOut, Next, Reading, comes_to_end, meets_fault, hands_out, TellsTheSheet}
 use Rattle.lines.specs.Checks.{Good}
@@ -20,7 +19,7 @@ use Rattle.std.proofs.lemmas.List.Sums.{sum_by_push, count_by-le-length}
 use Rattle.std.specs.List.{AllByRecursion}
 
 -- the loop's invariant: the reader `start` has handed out ls and is now s, and the summary counts ls
-pub record Sofar (k : ℕ) (start s : Reader) (sum : Summary) : Type 0 where
+pub record Sofar {V : Type 0} (k : ℕ) (start s : Reader V) (sum : Summary) : Type 0 where
   pub ls : List Line
   pub reading : (ms : List Line) (f : Option Fault) → Reading k s ms f → Reading k start (ls ++ ms) f
   pub numbered : s.line ≡ length ls + 1
@@ -28,7 +27,7 @@ pub record Sofar (k : ℕ) (start s : Reader) (sum : Summary) : Type 0 where
   pub counted : Counted ls sum
 
 -- before the first line
-pub sofar_none : (k : ℕ) (text : List ℕ) (s : Reader) (sum : Summary) → Begun text s → (sum.pins ≡ pos 0) × ((sum.names ≡ 0) × ((sum.constraints ≡ 0) × (sum.commits ≡ 0))) → Sofar k s s sum
+pub sofar_none : {V : Type 0} (k : ℕ) (text : List ℕ) (s : Reader V) (sum : Summary) → Begun text s → (sum.pins ≡ pos 0) × ((sum.names ≡ 0) × ((sum.constraints ≡ 0) × (sum.commits ≡ 0))) → Sofar k s s sum
 sofar_none k text s sum begun zeros = record {
   ls = [];
   reading = λ ms f r. r;
@@ -46,8 +45,8 @@ none_before (Some l) turn = absurd (omega (arith, turn.0))
 pins_more : (k : ℕ) (last : Option Letter) (n : ℕ) (bytes : List ℕ) (line : Line) (ls : List Line) (before after : ℤ) → Good k last n bytes line → (last ≡ None → ls ≡ []) → NotedPins line before after → AllByRecursion (ShowsPins before) ls → AllByRecursion (ShowsPins after) (ls ++ (line ∷ []))
 pins_more k last n bytes (Pins m pins count) ls before after good first noted all =
     let (z, shows) = good.numbers.0 in
-    let taken = noted z shows (sfits_shows pins.now z (omega (arith, good.parts.layout.0)) shows) in
-    subst (λ l. AllByRecursion (ShowsPins after) (l ++ (Pins m pins count ∷ []))) (sym (first (none_before last good.turn))) (subst (Shows pins.now) (sym taken) shows, tt)
+    subst (λ l. AllByRecursion (ShowsPins after) (l ++ (Pins m pins count ∷ []))) (sym (first (none_before last good.turn)))
+    (subst (ShowsPin pins.now) (sym (noted z shows)) shows, tt)
 pins_more k last n bytes (Name m pin name) ls before after good first noted all =
     subst (λ z. AllByRecursion (ShowsPins z) (ls ++ (Name m pin name ∷ []))) (sym noted) (All-push (ShowsPins before) ls (Name m pin name) all tt)
 pins_more k last n bytes (Constraint m r) ls before after good first noted all =
@@ -55,15 +54,21 @@ pins_more k last n bytes (Constraint m r) ls before after good first noted all =
 pins_more k last n bytes (Commit m r) ls before after good first noted all =
     subst (λ z. AllByRecursion (ShowsPins z) (ls ++ (Commit m r ∷ []))) (sym noted) (All-push (ShowsPins before) ls (Commit m r) all tt)
 
+-- an N line changes the number of pins only
+pub noted_pins : (line : Line) (m : ℕ) (pins count : Bor (List ℕ)) (before : Summary) (y : ℤ) → line ≡ Pins m pins count → ((z : ℤ) → ShowsPin pins.now z → y ≡ z) → Noted line before (record { pins = y; names = before.names; constraints = before.constraints; commits = before.commits })
+noted_pins line m pins count before y is taken =
+    subst (λ l. Noted l before (record { pins = y; names = before.names; constraints = before.constraints; commits = before.commits })) (sym is)
+    (record { pins = taken; names = omega arith; constraints = omega arith; commits = omega arith })
+
 -- a count with one line more
 many_push : (l : Letter) (ls : List Line) (line : Line) (before after : ℕ) → before ≡ many l ls → after ≡ before + cond (has l line) 1 0 → after ≡ many l (ls ++ (line ∷ []))
 many_push l ls line before after e noted = noted ∙ ap (λ n. n + cond (has l line) 1 0) e ∙ sym (sum_by_push (λ x. cond (has l x) 1 0) ls line)
 
-module _ (k : ℕ) (start s t : Reader) (sum : Summary) (line : Line) (so : Sofar k start s sum) (h : HandsOut k s t line) where
+module _ {V : Type 0} (k : ℕ) (start s t : Reader V) (sum : Summary) (line : Line) (so : Sofar k start s sum) (h : HandsOut k s t line) where
   -- there are fewer lines than bytes
   pub few : Few sum
   few =
-      let short : length t.text.now ≤ limit = subst (λ x. length x.now ≤ limit) (sym h.text) h.ahead.fit.short in
+      let short : length t.text.now ≤ limit = subst (λ x. length x.now ≤ limit) (sym h.text) h.ahead.readable.short in
       let lines : length so.ls < limit = omega (arith, so.numbered, h.number, t.counted, t.within) in
       let counted = so.counted in
       record {
@@ -87,7 +92,7 @@ module _ (k : ℕ) (start s t : Reader) (sum : Summary) (line : Line) (so : Sofa
     };
   }
 
-module _ (k : ℕ) (text : List ℕ) (start s t : Reader) (sum : Summary) (tells : TellsTheSheet text start) (so : Sofar k start s sum) where
+module _ {V : Type 0} (k : ℕ) (text : List ℕ) (start s t : Reader V) (sum : Summary) (tells : TellsTheSheet text start) (so : Sofar k start s sum) where
   -- after the last line, the count is the sheet's
   pub surveyed_all : (o : Option Line) → o ≡ None → Next k s t (Ok o) → Surveyed k text (Ok sum)
   surveyed_all o e next =

@@ -7,10 +7,9 @@
 --     Noted line before after    `after` counts one line more than `before`
 --     Surveyed k text r          r counts the lines of the sheet, or is its first fault
 --     summary_text s             the four numbers, each on a line of its own behind its name
-use Rattle.std.specs.Prelude.{◌≡◌, ℕ, ◌+◌, ◌<◌, Bool, cond, List, ◌++◌, ℤ, codes, Some, None, Ok, Err, count_by, Result, FitsSigned, ◌==◌}
+use Rattle.std.specs.Prelude.{◌≡◌, ℕ, ◌+◌, ◌<◌, Bool, cond, List, ◌++◌, ℤ, codes, Some, None, Ok, Err, count_by, Result, ◌==◌}
 use Rattle.std.specs.Fmt.{decimal, signed_decimal}
-use Rattle.std.specs.Int.{w64}
-use Rattle.columns.specs.Columns.{Shows}
+use Rattle.lines.specs.Fields.{ShowsPin}
 use Rattle.lines.specs.Lines.{letter, rank}
 use Rattle.reader.specs.Sheets.{Told}
 use Rattle.reader.specs.Texts.{limit}
@@ -29,7 +28,7 @@ abbrev pub many : Letter → List Line → ℕ
 many l ls = count_by (has l) ls
 
 abbrev pub ShowsPins : ℤ → Line → Type 0
-ShowsPins z (Pins line pins count) = Shows pins.now z
+ShowsPins z (Pins line pins count) = ShowsPin pins.now z
 ShowsPins z (Name line pin name) = Unit {0}
 ShowsPins z (Constraint line r) = Unit {0}
 ShowsPins z (Commit line r) = Unit {0}
@@ -45,9 +44,9 @@ pub record Few (s : Summary) : Type 0 where
   pub constraints : s.constraints < limit
   pub commits : s.commits < limit
 
--- the number on an N line is taken over where it fits
+-- the number on an N line is taken over
 abbrev pub NotedPins : Line → ℤ → ℤ → Type 0
-NotedPins (Pins line pins count) before after = (z : ℤ) → Shows pins.now z → FitsSigned w64 z → after ≡ z
+NotedPins (Pins line pins count) before after = (z : ℤ) → ShowsPin pins.now z → after ≡ z
 NotedPins (Name line pin name) before after = after ≡ before
 NotedPins (Constraint line r) before after = after ≡ before
 NotedPins (Commit line r) before after = after ≡ before

@@ -1,12 +1,12 @@
 // What a sheet holds, in numbers.
-ghost use Rattle.std.specs.Prelude.{◌≡◌, ℤ, Some, FitsSigned};
-ghost use Rattle.std.specs.Int.{w64};
-ghost use Rattle.columns.specs.Columns.{Shows};
+ghost use Rattle.std.specs.Prelude.{◌≡◌, ℤ, Some};
+ghost use Rattle.lines.specs.Fields.{ShowsPin};
 ghost use Rattle.reader.specs.Summaries.{Few, Noted, Surveyed, summary_text};
 
 use crate::fault::Fault;
 use crate::reader::Reader;
 use kinds::time::Written;
+use lines::field::pin;
 use lines::line::Line;
 use std::fmt;
 
@@ -33,9 +33,9 @@ impl fmt::Display for Summary {
 }
 
 fn number_of(columns: &[u8]) -> i64
-    ensures { (z : ℤ) → Shows columns.now z → FitsSigned w64 z → result ≡ z }
+    ensures { (z : ℤ) → ShowsPin columns.now z → result ≡ z }
 {
-    columns::read(columns).unwrap_or(0)
+    pin(columns).unwrap_or(0)
 }
 
 impl Summary {
@@ -56,9 +56,9 @@ impl Summary {
 pub fn survey<T: Written>(text: &[u8]) -> Result<Summary, Fault>
     ensures sheet { Surveyed T.Time.COUNT text.now result }
 {
-    let mut reader = Reader::new(text);
+    let mut reader = Reader::<T>::new(text);
     let mut summary = Summary::default();
-    while let Some(line) = reader.next_line::<T>()? {
+    while let Some(line) = reader.next_line()? {
         summary.note(&line);
     }
     Ok(summary)

@@ -8,7 +8,7 @@ use anyhow::Context;
 use kinds::guarded::Guarded;
 use kinds::plain::Plain;
 use kinds::time::Written;
-use lines::cause::Cause;
+use lines::cause::TextCause;
 use offsets::Offset;
 use reader::fault::{Fault, WIDTH};
 use reader::summary::{Summary, survey};
@@ -57,7 +57,7 @@ fn run_case(rt: &HostRuntime, case: &str) -> anyhow::Result<()> {
 // A fault that has no room is not told, and the bytes stay.
 fn print_refusals(rt: &HostRuntime) -> anyhow::Result<()> {
     for (line, width) in [(1_000_000, 15), (usize::MAX, 15), (1, 14), (1, 16)] {
-        let cause = Cause::Turn;
+        let cause = TextCause::Turn;
         let mut bytes = vec![in rt.alloc(); b'x'; width]?;
         let refused = Fault { cause, line }.write(&mut bytes).is_err();
         rt.stdout().write_all(&bytes)?;

@@ -1,14 +1,16 @@
 // How a reader begins, and hands out one line after the other.
 ghost use Rattle.std.specs.Prelude.{◌≡◌};
 ghost use Rattle.reader.specs.Readings.{Before, Begun, Next, TellsTheSheet};
-ghost use Rattle.reader.specs.Texts.{FirstNewline, newlines, Unfit};
+ghost use Rattle.reader.specs.Sheets.{OneTelling};
+ghost use Rattle.reader.specs.Texts.{FirstNewline, newlines, Unreadable};
 
 use super::Reader;
 use crate::fault::Fault;
 use kinds::time::Written;
-use lines::cause::Cause;
+use lines::cause::TextCause;
 use lines::checks::checked_line;
 use lines::line::Line;
+use std::marker::PhantomData;
 
 // The most bytes that a sheet may have.
 pub const LIMIT: usize = 32_768;
@@ -21,22 +23,22 @@ fn newlines(text: &[u8]) -> usize
 
 // A text is read line by line where it has no fault as a whole.
 fn whole_text(text: &[u8]) -> Result<(), Fault>
-    ensures { Unfit text.now result }
+    ensures { Unreadable text.now result }
 {
     if text.len() > LIMIT {
         return Err(Fault {
-            cause: Cause::Length,
+            cause: TextCause::Length,
             line: 0,
         });
     }
     match text {
         [] => Err(Fault {
-            cause: Cause::Turn,
+            cause: TextCause::Turn,
             line: 1,
         }),
         [.., b'\n'] => Ok(()),
         _ => Err(Fault {
-            cause: Cause::Newline,
+            cause: TextCause::Newline,
             line: newlines(text) + 1,
         }),
     }
@@ -49,16 +51,18 @@ fn line_length(text: &[u8]) -> Option<usize>
     text.iter().position(|byte| *byte == b'\n')
 }
 
-impl<'a> Reader<'a> {
-    pub fn new(text: &'a [u8]) -> Reader<'a>
+impl<'a, T: Written> Reader<'a, T> {
+    pub fn new(text: &'a [u8]) -> Reader<'a, T>
         ensures begun { Begun text.now result }
         ensures tells_the_sheet { TellsTheSheet text.now result }
+        ensures one_telling { OneTelling T.Time.COUNT text.now }
     {
         Reader {
             text,
             place: 0,
             line: 1,
             last: None,
+            kind: PhantomData,
         }
     }
 
@@ -73,7 +77,7 @@ impl<'a> Reader<'a> {
     }
 
     // The next line, or none after the last. At a fault the reader stays where it is.
-    pub fn next_line<T: Written>(&mut self) -> Result<Option<Line<'a>>, Fault>
+    pub fn next_line(&mut self) -> Result<Option<Line<'a>>, Fault>
         ensures next { Next T.Time.COUNT self.old self.new result }
     {
         self.before_lines()?;

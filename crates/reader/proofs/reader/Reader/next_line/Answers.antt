@@ -11,7 +11,7 @@ returns-in-Ok g c =
       next = record {
         bytes = _;
         ahead = line_ahead c.args.self.now c.in-Some.length c.in_ok-before_lines.ensures first;
-        good = simp take_rest at c.in-Ok.ensures.checked;
+        good = simp take_rest at c.in-Ok.ensures.judged;
         text = refl;
         place = omega (arith, length-take-le c.in-Some.length (rest c.args.self.now) (omega (arith, first.within)));
         number = refl;
@@ -27,7 +27,7 @@ returns-in-Err g c =
         inr (record {
           bytes = _;
           ahead = line_ahead c.args.self.now c.in-Some.length c.in_ok-before_lines.ensures first;
-          faulty = simp take_rest at c.in-Err.ensures.checked;
+          faulty = simp take_rest at c.in-Err.ensures.judged;
           number = refl;
         }),
         refl,

@@ -1,0 +1,211 @@
+// What `sheetcheck` answers.
+use crate::streams::{Halting, with_room};
+use programs::request::{Kind, Request, asked};
+use sheetreport::report::answer;
+use std::alloc::{AllocError, Global};
+use std::process::{Abort, ExitCode};
+use std::test::Fail;
+
+// A sheet of each kind; no two of its four numbers are equal.
+const PLAIN: &str = "N   7   1
+P   2 ADC
+R   1   2          -3           5
+R   2   3          -2           1
+R   3   1                       1
+C   1   3           4           4
+C   1   2           6           6
+";
+
+const PLAIN_COUNTS: &str = "pins 7\nnames 1\nconstraints 3\ncommits 2\n";
+
+const GUARDED: &str = "N  -5   2
+P   2 ADC
+P   1 
+P   1 DAC
+R   1   2          -3           0           5           1
+C   1   3           4           0           4           0
+C   1   2           5          -7           9           3
+";
+
+const GUARDED_COUNTS: &str = "pins -5\nnames 3\nconstraints 1\ncommits 2\n";
+
+const USAGE: &str = "usage: sheetcheck [plain|guarded|--help]\n";
+
+// The streams, of which only a run reads, and the status of the answer to the words, which are parted by spaces.
+fn check(
+    rt: &impl Abort,
+    heap: Global,
+    words: &str,
+    input: &[u8],
+    output: &str,
+    errors: &str,
+) -> Result<(), Fail> {
+    let all: Vec<String> = words
+        .split_whitespace()
+        .map(|word| String::from_str(heap, word))
+        .try_collect(heap)?;
+    let request = asked(all.as_slice());
+    let mut source = input;
+    let mut out = Vec::new(heap);
+    let mut err = Vec::new(heap);
+    let code = answer(request, &mut source, &mut out, &mut err, heap)?;
+    let (status, left) = match request {
+        Request::Run(_) if errors.is_empty() => (ExitCode::SUCCESS, 0),
+        Request::Run(_) => (ExitCode::FAILURE, 0),
+        Request::Help => (ExitCode::SUCCESS, input.len()),
+        Request::NotUnderstood => (ExitCode::FAILURE, input.len()),
+    };
+    assert_eq!(rt; code, status, "{}", words);
+    assert_eq!(rt; source.len(), left, "what is left of the input");
+    assert!(rt; out.as_slice() == output.as_bytes(), "{}", output);
+    assert!(rt; err.as_slice() == errors.as_bytes(), "{}", errors);
+    Ok(())
+}
+
+#[test]
+fn each_cause_is_told(rt: HostRuntime) -> Result<(), Fail> {
+    let heap = rt.alloc();
+    for (text, line, words) in [
+        (
+            "N   1   1\nP   1 ",
+            "E   3  31     2\n",
+            "sheetcheck: line 2: the last line lacks its newline\n",
+        ),
+        (
+            "N   1   1\nX\n",
+            "E   2  32     2\n",
+            "sheetcheck: line 2: unknown letter, or columns not as laid out\n",
+        ),
+        (
+            "",
+            "E   3  33     1\n",
+            "sheetcheck: line 1: line out of turn, or no N line\n",
+        ),
+        (
+            "N   1   3\n",
+            "E   3  34     1\n",
+            "sheetcheck: line 1: the count of numbers is not the kind's\n",
+        ),
+        (
+            "N   1   1\nP  01 \n",
+            "E   1  35     2\n",
+            "sheetcheck: line 2: a field is not a number\n",
+        ),
+    ] {
+        check(&rt, heap, "plain", text.as_bytes(), line, words)?;
+    }
+    Ok(())
+}
+
+// A sheet of so many bytes, most of which are one name.
+fn long_sheet(heap: Global, bytes: usize) -> Result<Vec<u8>, AllocError> {
+    let mut text = Vec::new(heap);
+    text.extend_from_slice(b"N   1   1\nP   1 ")?;
+    for _ in 17..bytes {
+        text.push(b'x')?;
+    }
+    text.push(b'\n')?;
+    Ok(text)
+}
+
+// The cause that needs a long text.
+#[test]
+fn a_sheet_has_a_limit(rt: HostRuntime) -> Result<(), Fail> {
+    let heap = rt.alloc();
+    let counts = "pins 1\nnames 1\nconstraints 0\ncommits 0\n";
+    let line = "E   3  30     0\n";
+    let words = "sheetcheck: line 0: the text has more than 32768 bytes\n";
+    for (bytes, output, errors) in [
+        (32_768, counts, ""),
+        (32_769, line, words),
+        (40_000, line, words),
+    ] {
+        let text = long_sheet(heap, bytes)?;
+        assert_eq!(rt; text.len(), bytes);
+        check(&rt, heap, "", text.as_slice(), output, errors)?;
+    }
+    Ok(())
+}
+
+#[test]
+fn each_kind_is_run(rt: HostRuntime) -> Result<(), Fail> {
+    let heap = rt.alloc();
+    let line = "E   3  34     1\n";
+    let words = "sheetcheck: line 1: the count of numbers is not the kind's\n";
+    for (kind, text, output, errors) in [
+        ("", PLAIN, PLAIN_COUNTS, ""),
+        ("plain", PLAIN, PLAIN_COUNTS, ""),
+        ("guarded", GUARDED, GUARDED_COUNTS, ""),
+        ("guarded", PLAIN, line, words),
+        ("plain", GUARDED, line, words),
+    ] {
+        check(&rt, heap, kind, text.as_bytes(), output, errors)?;
+    }
+    Ok(())
+}
+
+#[test]
+fn what_is_not_understood_gets_the_usage(rt: HostRuntime) -> Result<(), Fail> {
+    let heap = rt.alloc();
+    for words in ["guarded guarded", "Plain", "--help plain"] {
+        check(&rt, heap, words, GUARDED.as_bytes(), "", USAGE)?;
+    }
+    Ok(())
+}
+
+#[test]
+fn help_is_told(rt: HostRuntime) -> Result<(), Fail> {
+    let heap = rt.alloc();
+    let mut source = b"X".as_slice();
+    let mut out = Vec::new(heap);
+    let mut err = Vec::new(heap);
+    let code = answer(Request::Help, &mut source, &mut out, &mut err, heap)?;
+    assert_eq!(rt; code, ExitCode::SUCCESS);
+    assert_eq!(rt; source.len(), 1);
+    assert!(rt; out.as_slice().starts_with(b"sheetcheck: what a sheet"));
+    assert!(rt; out.as_slice().ends_with(b"< examples/feeder.sheet\n"));
+    assert_eq!(rt; err.len(), 0);
+    Ok(())
+}
+
+#[test]
+fn an_interrupted_source_is_read_on(rt: HostRuntime) -> Result<(), Fail> {
+    let heap = rt.alloc();
+    let mut source = Halting {
+        rest: PLAIN.as_bytes(),
+        halts: false,
+    };
+    let mut out = Vec::new(heap);
+    let mut err = Vec::new(heap);
+    let request = Request::Run(Kind::Plain);
+    let code = answer(request, &mut source, &mut out, &mut err, heap)?;
+    assert_eq!(rt; code, ExitCode::SUCCESS);
+    assert_eq!(rt; source.rest.len(), 0);
+    assert!(rt; out.as_slice() == PLAIN_COUNTS.as_bytes());
+    assert_eq!(rt; err.len(), 0);
+    Ok(())
+}
+
+// One byte of room less than the answer needs, on either stream.
+#[test]
+fn what_cannot_be_written_is_an_error(rt: HostRuntime) -> Result<(), Fail> {
+    let heap = rt.alloc();
+    let run = Request::Run(Kind::Plain);
+    for (request, text, output, errors, fits) in [
+        (run, PLAIN, 39, 0, true),
+        (run, PLAIN, 38, 0, false),
+        (run, "", 16, 51, true),
+        (run, "", 15, 51, false),
+        (run, "", 16, 50, false),
+        (Request::Help, "", 20, 0, false),
+        (Request::NotUnderstood, "", 0, 41, true),
+        (Request::NotUnderstood, "", 0, 40, false),
+    ] {
+        let mut source = text.as_bytes();
+        let mut out = with_room(heap, output);
+        let mut err = with_room(heap, errors);
+        let ended = answer(request, &mut source, &mut out, &mut err, heap);
+        assert_eq!(rt; ended.is_ok(), fits, "{} {}", output, errors);
+    }
+    Ok(())
+}
