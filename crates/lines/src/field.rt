@@ -9,6 +9,7 @@ use kinds::time::{FIELD, Written};
 pub const PIN: usize = 4;
 
 // The number of a pin, or of a count on an N line.
+#[tactic(auto, using(crate::proofs::Fields::reads_pin))]
 pub fn pin(columns: &[u8]) -> Result<i64, TextCause>
     ensures value { ReadsPin columns.now result }
 {

@@ -43,10 +43,9 @@ fn other_words_are_not_understood(rt: HostRuntime) -> Result<(), Fail> {
             word
         );
     }
-    assert_eq!(rt;
-        asked_of(heap, &["guarded", "guarded"])?,
-        Request::NotUnderstood
-    );
+    for words in [["guarded", "guarded"], ["--help", "plain"]] {
+        assert_eq!(rt; asked_of(heap, &words)?, Request::NotUnderstood);
+    }
     Ok(())
 }
 

@@ -1,6 +1,6 @@
 // What `sheetcheck` answers.
 use crate::streams::{Halting, with_room};
-use programs::request::{Kind, Request, asked};
+use programs::request::{Kind, Request};
 use sheetreport::report::answer;
 use std::alloc::{AllocError, Global};
 use std::process::{Abort, ExitCode};
@@ -31,31 +31,43 @@ const GUARDED_COUNTS: &str = "pins -5\nnames 3\nconstraints 1\ncommits 2\n";
 
 const USAGE: &str = "usage: sheetcheck [plain|guarded|--help]\n";
 
-// The streams, of which only a run reads, and the status of the answer to the words, which are parted by spaces.
+const HELP: &str = "sheetcheck: what a sheet of bounds holds, or its first fault
+
+usage: sheetcheck [plain|guarded|--help]
+
+The sheet is read from standard input. The argument says of which kind its times
+are; where there is none, they are plain. Without a fault, four counts are printed.
+With one, its E line is printed, standard error says what is wrong and on which
+line, and the status is 1.
+
+example: sheetcheck plain < examples/feeder.sheet
+";
+
+const RUN_PLAIN: Request = Request::Run(Kind::Plain);
+
+// The streams, of which only a run reads, and the status of the answer.
 fn check(
     rt: &impl Abort,
     heap: Global,
-    words: &str,
+    request: Request,
     input: &[u8],
     output: &str,
     errors: &str,
 ) -> Result<(), Fail> {
-    let all: Vec<String> = words
-        .split_whitespace()
-        .map(|word| String::from_str(heap, word))
-        .try_collect(heap)?;
-    let request = asked(all.as_slice());
     let mut source = input;
     let mut out = Vec::new(heap);
     let mut err = Vec::new(heap);
     let code = answer(request, &mut source, &mut out, &mut err, heap)?;
-    let (status, left) = match request {
-        Request::Run(_) if errors.is_empty() => (ExitCode::SUCCESS, 0),
-        Request::Run(_) => (ExitCode::FAILURE, 0),
-        Request::Help => (ExitCode::SUCCESS, input.len()),
-        Request::NotUnderstood => (ExitCode::FAILURE, input.len()),
+    let left = match request {
+        Request::Run(_) => 0,
+        Request::Help | Request::NotUnderstood => input.len(),
     };
-    assert_eq!(rt; code, status, "{}", words);
+    let status = if errors.is_empty() {
+        ExitCode::SUCCESS
+    } else {
+        ExitCode::FAILURE
+    };
+    assert_eq!(rt; code, status, "{request:?}");
     assert_eq!(rt; source.len(), left, "what is left of the input");
     assert!(rt; out.as_slice() == output.as_bytes(), "{}", output);
     assert!(rt; err.as_slice() == errors.as_bytes(), "{}", errors);
@@ -92,7 +104,7 @@ fn each_cause_is_told(rt: HostRuntime) -> Result<(), Fail> {
             "sheetcheck: line 2: a field is not a number\n",
         ),
     ] {
-        check(&rt, heap, "plain", text.as_bytes(), line, words)?;
+        check(&rt, heap, RUN_PLAIN, text.as_bytes(), line, words)?;
     }
     Ok(())
 }
@@ -122,7 +134,7 @@ fn a_sheet_has_a_limit(rt: HostRuntime) -> Result<(), Fail> {
     ] {
         let text = long_sheet(heap, bytes)?;
         assert_eq!(rt; text.len(), bytes);
-        check(&rt, heap, "", text.as_slice(), output, errors)?;
+        check(&rt, heap, RUN_PLAIN, text.as_slice(), output, errors)?;
     }
     Ok(())
 }
@@ -133,39 +145,35 @@ fn each_kind_is_run(rt: HostRuntime) -> Result<(), Fail> {
     let line = "E   3  34     1\n";
     let words = "sheetcheck: line 1: the count of numbers is not the kind's\n";
     for (kind, text, output, errors) in [
-        ("", PLAIN, PLAIN_COUNTS, ""),
-        ("plain", PLAIN, PLAIN_COUNTS, ""),
-        ("guarded", GUARDED, GUARDED_COUNTS, ""),
-        ("guarded", PLAIN, line, words),
-        ("plain", GUARDED, line, words),
+        (Kind::Plain, PLAIN, PLAIN_COUNTS, ""),
+        (Kind::Guarded, GUARDED, GUARDED_COUNTS, ""),
+        (Kind::Guarded, PLAIN, line, words),
+        (Kind::Plain, GUARDED, line, words),
     ] {
-        check(&rt, heap, kind, text.as_bytes(), output, errors)?;
+        check(
+            &rt,
+            heap,
+            Request::Run(kind),
+            text.as_bytes(),
+            output,
+            errors,
+        )?;
     }
     Ok(())
 }
 
 #[test]
-fn what_is_not_understood_gets_the_usage(rt: HostRuntime) -> Result<(), Fail> {
+fn nothing_is_run_for_help_or_other_words(rt: HostRuntime) -> Result<(), Fail> {
     let heap = rt.alloc();
-    for words in ["guarded guarded", "Plain", "--help plain"] {
-        check(&rt, heap, words, GUARDED.as_bytes(), "", USAGE)?;
-    }
-    Ok(())
-}
-
-#[test]
-fn help_is_told(rt: HostRuntime) -> Result<(), Fail> {
-    let heap = rt.alloc();
-    let mut source = b"X".as_slice();
-    let mut out = Vec::new(heap);
-    let mut err = Vec::new(heap);
-    let code = answer(Request::Help, &mut source, &mut out, &mut err, heap)?;
-    assert_eq!(rt; code, ExitCode::SUCCESS);
-    assert_eq!(rt; source.len(), 1);
-    assert!(rt; out.as_slice().starts_with(b"sheetcheck: what a sheet"));
-    assert!(rt; out.as_slice().ends_with(b"< examples/feeder.sheet\n"));
-    assert_eq!(rt; err.len(), 0);
-    Ok(())
+    check(&rt, heap, Request::Help, PLAIN.as_bytes(), HELP, "")?;
+    check(
+        &rt,
+        heap,
+        Request::NotUnderstood,
+        PLAIN.as_bytes(),
+        "",
+        USAGE,
+    )
 }
 
 #[test]
@@ -177,8 +185,7 @@ fn an_interrupted_source_is_read_on(rt: HostRuntime) -> Result<(), Fail> {
     };
     let mut out = Vec::new(heap);
     let mut err = Vec::new(heap);
-    let request = Request::Run(Kind::Plain);
-    let code = answer(request, &mut source, &mut out, &mut err, heap)?;
+    let code = answer(RUN_PLAIN, &mut source, &mut out, &mut err, heap)?;
     assert_eq!(rt; code, ExitCode::SUCCESS);
     assert_eq!(rt; source.rest.len(), 0);
     assert!(rt; out.as_slice() == PLAIN_COUNTS.as_bytes());
@@ -190,13 +197,12 @@ fn an_interrupted_source_is_read_on(rt: HostRuntime) -> Result<(), Fail> {
 #[test]
 fn what_cannot_be_written_is_an_error(rt: HostRuntime) -> Result<(), Fail> {
     let heap = rt.alloc();
-    let run = Request::Run(Kind::Plain);
     for (request, text, output, errors, fits) in [
-        (run, PLAIN, 39, 0, true),
-        (run, PLAIN, 38, 0, false),
-        (run, "", 16, 51, true),
-        (run, "", 15, 51, false),
-        (run, "", 16, 50, false),
+        (RUN_PLAIN, PLAIN, 39, 0, true),
+        (RUN_PLAIN, PLAIN, 38, 0, false),
+        (RUN_PLAIN, "", 16, 51, true),
+        (RUN_PLAIN, "", 15, 51, false),
+        (RUN_PLAIN, "", 16, 50, false),
         (Request::Help, "", 20, 0, false),
         (Request::NotUnderstood, "", 0, 41, true),
         (Request::NotUnderstood, "", 0, 40, false),

@@ -52,6 +52,7 @@ fn line_length(text: &[u8]) -> Option<usize>
 }
 
 impl<'a, T: Written> Reader<'a, T> {
+    #[tactic(auto, using(crate::proofs::OneTelling::one_telling, crate::proofs::Tellings::tells_the_sheet))]
     pub fn new(text: &'a [u8]) -> Reader<'a, T>
         ensures begun { Begun text.now result }
         ensures tells_the_sheet { TellsTheSheet text.now result }
