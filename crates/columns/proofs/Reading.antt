@@ -1,7 +1,8 @@
 -- Lemmas on a number that is read digit by digit. Assumes nothing.
-use Rattle.std.proofs.Common.{◌≡◌, ℕ, zero, suc, ◌+◌, ◌-◌, ◌*◌, ◌<◌, ◌≤◌, List, [], ◌∷◌, ◌++◌, length, get_or, take, ℤ, pos, negsuc, Ok, Err, Option, Result, sym, refl, ap, ◌∙◌, subst, arith, w64, SFits}
+use Rattle.std.proofs.Common.{◌≡◌, ℕ, zero, suc, ◌+◌, ◌-◌, ◌*◌, ◌<◌, ◌≤◌, List, [], ◌∷◌, ◌++◌, length, get_or, take, ℤ, pos, negsuc, Some, None, Ok, Err, Option, Result, sym, refl, ap, ◌∙◌, subst, arith, w64, SFits}
 use Rattle.std.proofs.ByRecursion.{All-get_or}
-use Rattle.std.proofs.lemmas.List.{take_more}
+use Rattle.std.proofs.lemmas.List.{take_more, take_all}
+use Rattle.std.specs.Option.{ok_or}
 use Rattle.std.specs.Result.{OkIff, result_or}
 use Rattle.std.specs.List.{AllByRecursion}
 use Rattle.std.specs.Int.{IsInRange}
@@ -52,6 +53,16 @@ sofar_more bytes i kept next within digit step sofar =
       spelt = subst (λ l. Spells l n) (sym more) (spells_push _ _ d nonzero (omega (arith, digit.1)) sofar.spelt);
       held = step sofar.number sofar.held;
     }
+
+-- at the end the bytes are all digits
+spelt_all : (bytes : List ℕ) (n : ℕ) → 0 < length bytes → Spells bytes n → bytes ≡ decimal n
+spelt_all [] n some spelt = absurd (omega arith)
+spelt_all (b ∷ bs) n some spelt = spelt
+
+-- after the last byte
+pub sofar_all : (bytes : List ℕ) (kept : Option ℕ) (i : ℕ) → length bytes ≤ i → Sofar bytes i kept → Measures bytes (ok_or kept TooLarge)
+sofar_all bytes (Some m) i end sofar = spelt_all bytes m sofar.some (rw (sofar.held, ← take_all i bytes end) sofar.spelt)
+sofar_all bytes None i end sofar = (sofar.number, spelt_all bytes _ sofar.some (rw (← take_all i bytes end) sofar.spelt), sofar.held)
 
 -- no number has no digits
 pub no_number_empty : (bytes : List ℕ) → length bytes ≡ 0 → Measures bytes (Err NoNumber)

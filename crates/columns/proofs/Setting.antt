@@ -1,7 +1,7 @@
 -- Lemmas on a number that is written into some columns of a text. Assumes nothing.
 use Rattle.std.proofs.Common.{◌≡◌, ℕ, ◌+◌, ◌-◌, ◌≤◌, List, ◌++◌, length, take, drop, ℤ, Ok, Err, Result, sym, ap, ◌∙◌, subst, arith, length-append, length-drop, take-append-drop, length-take}
 use borrow.Rule.Slice.PartMut.{put_mid}
-use Rattle.columns.specs.Columns.{Shows, Writes, WritesAt}
+use Rattle.columns.specs.Columns.{numeral, Shows, Writes, Set, WritesAt}
 use Rattle.columns.specs.declared.NoRoom.{NoRoom}
 use Rattle.std.proofs.lemmas.Slice.{between-put_mid, drop-put_mid, take-put_mid_below}
 
@@ -27,3 +27,9 @@ set_part z start width k text part (Err _) same within h = (
 -- the same, where y is the number as the code passes it on
 pub writes_at : (y z : ℤ) (start width k : ℕ) (text part : List ℕ) (r : Result (Unit {0}) NoRoom) → y ≡ z → k ≡ width → start + width ≤ length text → Writes y (take k (drop start text)) part r → WritesAt z start width text (put_mid start k text part) r
 writes_at y z start width k text part r e same within h = subst (λ x. WritesAt x start width text (put_mid start k text part) r) e (set_part y start width k text part r same within h)
+
+-- where the numeral has room, it is written and not refused; y is the number as the code passes it on
+pub set_with_room : (y z : ℤ) (start width : ℕ) (before after : List ℕ) (r : Result (Unit {0}) NoRoom) → y ≡ z → start + width ≤ length before → length (numeral z) ≤ width → WritesAt y start width before after r → Set z start width before after
+set_with_room y z start width before after (Ok _) e within room h = subst (λ x. Set x start width before after) e h
+set_with_room y z start width before after (Err refusal) e within room h =
+    absurd ((subst (λ x. WritesAt x start width before after (Err refusal)) e h).1 within room)

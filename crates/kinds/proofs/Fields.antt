@@ -9,7 +9,7 @@ use Rattle.kinds.specs.Numbers.{ReadsNumber}
 use Rattle.std.specs.Result.{result_ok}
 
 -- A number that is written has room in a field.
-length_numeral_le : (z : ℤ) → nat_abs z ≤ widest → length (numeral z) ≤ field
+pub length_numeral_le : (z : ℤ) → nat_abs z ≤ widest → length (numeral z) ≤ field
 length_numeral_le (pos n) h = length_decimal_le 12 n (lit< tt) (omega arith)
 length_numeral_le (negsuc n) h = omega (arith, length_decimal_le 11 (suc n) (lit< tt) (omega arith))
 

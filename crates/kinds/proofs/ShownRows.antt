@@ -13,7 +13,7 @@ row_one column z h =
     (omega (arith, h.0), rw take_all h.1, drop_all 12 column most)
 
 -- A row begins with the field of its first number.
-first_number : (k : ℕ) (columns : List ℕ) (r : Row (suc k)) → ShowsRow (suc k) columns r → ShowsNumber (take field columns) r.0
+pub first_number : (k : ℕ) (columns : List ℕ) (r : Row (suc k)) → ShowsRow (suc k) columns r → ShowsNumber (take field columns) r.0
 first_number k columns r h = (simp length-take (omega (arith, h.0)), h.1)
 
 -- A row of one number is a field.

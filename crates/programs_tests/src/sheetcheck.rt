@@ -1,5 +1,5 @@
 // What `sheetcheck` answers.
-use crate::streams::{Halting, with_room};
+use crate::streams::{Counting, Halting, with_room};
 use programs::request::{Kind, Request};
 use sheetreport::report::answer;
 use std::alloc::{AllocError, Global};
@@ -212,6 +212,26 @@ fn what_cannot_be_written_is_an_error(rt: HostRuntime) -> Result<(), Fail> {
         let mut err = with_room(heap, errors);
         let ended = answer(request, &mut source, &mut out, &mut err, heap);
         assert_eq!(rt; ended.is_ok(), fits, "{} {}", output, errors);
+    }
+    Ok(())
+}
+
+// What others write at the same time cannot come between the parts of a summary, or of the words: each is one write.
+#[test]
+fn what_is_told_is_written_whole(rt: HostRuntime) -> Result<(), Fail> {
+    let heap = rt.alloc();
+    for (request, text, output, errors) in [
+        (RUN_PLAIN, PLAIN, 1, 0),
+        (RUN_PLAIN, "", 2, 1),
+        (Request::Help, "", 1, 0),
+        (Request::NotUnderstood, "", 0, 1),
+    ] {
+        let mut source = text.as_bytes();
+        let mut out = Counting::default();
+        let mut err = Counting::default();
+        answer(request, &mut source, &mut out, &mut err, heap)?;
+        assert_eq!(rt; out.writes, output, "{request:?}");
+        assert_eq!(rt; err.writes, errors, "{request:?}");
     }
     Ok(())
 }

@@ -47,3 +47,20 @@ pub fn with_room(heap: Global, room: usize) -> Narrow {
         room,
     }
 }
+
+// Takes all that it is handed, and counts how often.
+#[derive(Default, Drop)]
+pub struct Counting {
+    pub writes: usize,
+}
+
+impl Write for Counting {
+    fn write(&mut self, buf: &[u8]) -> io::Result<usize> {
+        self.writes = self.writes.saturating_add(1);
+        Ok(buf.len())
+    }
+
+    fn flush(&mut self) -> io::Result<()> {
+        Ok(())
+    }
+}

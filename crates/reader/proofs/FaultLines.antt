@@ -1,15 +1,13 @@
 -- Why an E line shows its fault. Assumes nothing.
-use Rattle.std.proofs.Common.{◌≡◌, ℕ, ◌+◌, ◌^◌, ◌<◌, ◌≤◌, List, length, Err, take, drop, set, ℤ, pos, sym, ap, ◌∙◌, subst, arith, length-set}
+use Rattle.std.proofs.Common.{◌≡◌, ℕ, ◌+◌, ◌^◌, ◌<◌, ◌≤◌, List, length, take, drop, set, ℤ, pos, sym, ap, ◌∙◌, subst, arith, length-set}
 use Rattle.columns.proofs.Sizes.{length_decimal_le}
-use Rattle.columns.specs.Columns.{Shows, Set, WritesAt}
-use Rattle.columns.specs.declared.NoRoom.{NoRoom}
+use Rattle.columns.specs.Columns.{numeral, Shows, Set}
 use Rattle.reader.specs.Faults.{FaultLine}
 use Rattle.std.proofs.lemmas.List.{take-take, drop-take, take_more_set}
 
--- a number that has room in its columns is not refused; y is n as the code passes it on
-pub not_refused : (y : ℤ) (n start width : ℕ) (before after : List ℕ) (refusal : NoRoom) → y ≡ pos n → 0 < width → n < 10 ^ width → start + width ≤ length before → WritesAt y start width before after (Err refusal) → ⊥
-not_refused y n start width before after refusal e some small within refused =
-    (subst (λ z. WritesAt z start width before after (Err refusal)) e refused).1 within (length_decimal_le width n some small)
+-- a number that has room in its columns is not refused: what `WritesAt` says of a refusal, of columns that lie within the text, cannot be; y is n as the code passes it on
+pub not_refused : {Within : Type 0} (y : ℤ) (n width : ℕ) → (Within → length (numeral y) ≤ width → ⊥) → Within → y ≡ pos n → 0 < width → n < 10 ^ width → ⊥
+not_refused y n width refused within e some small = refused within (subst (λ z. length (numeral z) ≤ width) (sym e) (length_decimal_le width n some small))
 
 -- columns in front of those that were written are as before
 columns_before : (i m n : ℕ) (xs ys : List ℕ) → i + m ≤ n → take n xs ≡ take n ys → take m (drop i xs) ≡ take m (drop i ys)

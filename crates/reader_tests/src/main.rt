@@ -58,9 +58,12 @@ fn run_case(rt: &HostRuntime, case: &str) -> anyhow::Result<()> {
 fn print_refusals(rt: &HostRuntime) -> anyhow::Result<()> {
     for (line, width) in [(1_000_000, 15), (usize::MAX, 15), (1, 14), (1, 16)] {
         let cause = TextCause::Turn;
-        let mut bytes = vec![in rt.alloc(); b'x'; width]?;
-        let refused = Fault { cause, line }.write(&mut bytes).is_err();
-        rt.stdout().write_all(&bytes)?;
+        let mut columns = [b'x'; 16];
+        let bytes = columns
+            .get_mut(..width)
+            .context("no place has so many columns")?;
+        let refused = Fault { cause, line }.write(bytes).is_err();
+        rt.stdout().write_all(bytes)?;
         println!(rt; " refused {refused}")?;
     }
     Ok(())

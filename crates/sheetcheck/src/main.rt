@@ -1,6 +1,6 @@
 // Reads a sheet of bounds from standard input, and reports what it holds or its first fault.
-// `sheetreport` says what is answered. What no contract can say stands here: that the words are those after the
-// program's name, and that the streams are the system's.
+// `sheetreport` says what is answered. What no contract can say stands here: that the words are the first two after
+// the program's name, and that the streams are the system's.
 #![tactic(auto)]
 
 use programs::request::asked;
@@ -9,7 +9,8 @@ use std::env;
 use std::process::ExitCode;
 
 fn main(rt: HostRuntime) -> anyhow::Result<ExitCode> {
-    let words: Vec<String> = env::args(&rt)?.skip(1).collect(rt.alloc())?;
+    // Two words are not understood already, so no more are kept.
+    let words: Vec<String> = env::args(&rt)?.skip(1).take(2).collect(rt.alloc())?;
     answer(
         asked(words.as_slice()),
         &mut rt.stdin(),

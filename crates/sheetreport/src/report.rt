@@ -54,10 +54,12 @@ fn fault_line(fault: &Fault) -> Result<[u8; WIDTH], NoRoom>
     Ok(line)
 }
 
-fn tell_summary<O: Write>(summary: &Summary, output: &mut O) -> anyhow::Result<()>
+// Made whole first, so that one write takes it: a stream that has no buffer would take it piece by piece.
+fn tell_summary<O: Write>(summary: &Summary, output: &mut O, heap: Global) -> anyhow::Result<()>
     ensures prints { OnOk result (Prints (Ok summary.now) (O.contents output.old) (O.contents output.new)) }
 {
-    writeln!(output, "{summary}")?;
+    let text = format!(in heap; "{summary}\n")?;
+    output.write_all(text.as_bytes())?;
     Ok(())
 }
 
@@ -66,14 +68,17 @@ fn tell_fault<O: Write, E: Write>(
     fault: &Fault,
     output: &mut O,
     errors: &mut E,
+    heap: Global,
 ) -> anyhow::Result<()>
     ensures prints { OnOk result (Prints (Err fault.now) (O.contents output.old) (O.contents output.new)) }
     ensures says { OnOk result (Appends (E.contents errors.old) (E.contents errors.new) (said (Err fault.now))) }
 {
     let line = fault_line(fault)?;
+    // Whole, as a summary is, and before a byte is written.
+    let words = format!(in heap; "sheetcheck: {fault}\n")?;
     output.write_all(&line)?;
     output.write_all(b"\n")?;
-    writeln!(errors, "sheetcheck: {fault}")?;
+    errors.write_all(words.as_bytes())?;
     Ok(())
 }
 
@@ -103,14 +108,15 @@ fn report<O: Write, E: Write>(
     sheet: &Result<Summary, Fault>,
     output: &mut O,
     errors: &mut E,
+    heap: Global,
 ) -> anyhow::Result<ExitCode>
     ensures status { IfOk result (λ code. exit_status code ≡ status sheet.now) }
     ensures prints { OnOk result (Prints sheet.now (O.contents output.old) (O.contents output.new)) }
     ensures says { OnOk result (Appends (E.contents errors.old) (E.contents errors.new) (said sheet.now)) }
 {
     let told = match sheet {
-        Ok(summary) => tell_summary(summary, output),
-        Err(fault) => tell_fault(fault, output, errors),
+        Ok(summary) => tell_summary(summary, output, heap),
+        Err(fault) => tell_fault(fault, output, errors, heap),
     };
     status_after(told, sheet)
 }
@@ -149,7 +155,7 @@ fn run<R: Read, O: Write, E: Write>(
     ensures at_end { OnOk result (IsAtEnd (R.remaining source.new)) }
 {
     let sheet = read_sheet(kind, source, heap)?;
-    report(&sheet, output, errors)
+    report(&sheet, output, errors, heap)
 }
 
 fn help<O: Write>(output: &mut O) -> anyhow::Result<ExitCode>

@@ -9,21 +9,21 @@ returns-in_err-write_at c =
     let number : to_z w64 (of_z w64 c.from.result) ≡ pos c.number.result = to_z-of_z w64 c.from.result (search rules) ∙ c.from.ensures in
     let small : Fits w8 c.number.result = search rules in
     let within = length-set c.args.bytes.now 0 69 in
-    absurd (not_refused _ c.number.result 1 4 _ _ _ number (omega arith) (omega (arith, small)) (omega arith) c.in_err-write_at.ensures.value)
+    absurd (not_refused _ c.number.result _ c.in_err-write_at.ensures.value.1 (omega arith) number (omega arith) (omega (arith, small)))
 
 pub returns-in_err-write_at-2 : goal.returns-in_err-write_at-2
 returns-in_err-write_at-2 c =
     let number : to_z w64 (of_z w64 c.from-2.result) ≡ pos c.args.cause = to_z-of_z w64 c.from-2.result (search rules) ∙ c.from-2.ensures in
     let small = c.ranges.cause.fits in
     let first = c.in_ok-write_at.ensures.value in
-    absurd (not_refused _ c.args.cause 5 4 _ _ _ number (omega arith) (omega (arith, small)) (omega (arith, first.len, length-set c.args.bytes.now 0 69)) c.in_err-write_at-2.ensures.value)
+    absurd (not_refused _ c.args.cause _ c.in_err-write_at-2.ensures.value.1 (omega (arith, first.len, length-set c.args.bytes.now 0 69)) number (omega arith) (omega (arith, small)))
 
 pub returns-in_err-write_at-3 : goal.returns-in_err-write_at-3
 returns-in_err-write_at-3 c =
     let number = to_z_pos w64 c.args.line (omega arith) in
     let first = c.in_ok-write_at.ensures.value in
     let second = c.in_ok-write_at-2.ensures.value in
-    absurd (not_refused _ c.args.line 9 6 _ _ _ number (omega arith) (omega arith) (omega (arith, second.len, first.len, length-set c.args.bytes.now 0 69)) c.in_err-write_at-3.ensures.value)
+    absurd (not_refused _ c.args.line _ c.in_err-write_at-3.ensures.value.1 (omega (arith, second.len, first.len, length-set c.args.bytes.now 0 69)) number (omega arith) (omega arith))
 
 pub returns : goal.returns
 returns c =
