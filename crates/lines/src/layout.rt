@@ -27,7 +27,6 @@ fn record_fields<T: Time>(rest: &[u8]) -> Option<RecordFields<'_>>
 }
 
 // An N line, from what follows its letter.
-#[tactic(auto, using(crate::proofs::Layouts::no_pins))]
 fn pins_line(rest: &[u8], line: usize) -> Option<Line<'_>>
     ensures { LettersApart 78 line rest.now result }
 {
@@ -50,7 +49,6 @@ fn name_line(rest: &[u8], line: usize) -> Option<Line<'_>>
     }
 }
 
-#[tactic(auto, using(crate::proofs::Layouts::apart_line, crate::proofs::Layouts::no_record))]
 pub(crate) fn taken_apart<T: Time>(bytes: &[u8], line: usize) -> Option<Line<'_>>
     ensures { Apart T.COUNT line bytes.now result }
 {
